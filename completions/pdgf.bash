@@ -33,7 +33,7 @@ _pdgf_files() {
     mapfile -t COMPREPLY < <({ compgen -f -X "!*$2" -- "$1"; compgen -d -- "$1"; } | sort -u)
 }
 
-# Completes the value of an option.
+# Completes the value of an option, by the schema and the mode.
 _pdgf_value() {
     case $1 in
         --in | --out)
@@ -45,7 +45,7 @@ _pdgf_value() {
             _pdgf_files "$2" ''
             [ -n "$2" ] || COMPREPLY+=(:memory:)
             ;;
-        --format) mapfile -t COMPREPLY < <(compgen -W 'copy csv' -- "$2") ;;
+        --format) mapfile -t COMPREPLY < <(compgen -W "copy csv$([ "$4" = apply ] || echo ' sql')" -- "$2") ;;
         --header) mapfile -t COMPREPLY < <(compgen -W 'none names' -- "$2") ;;
         --table) mapfile -t COMPREPLY < <(compgen -W "$(_pdgf_tables "$3")" -- "$2") ;;
     esac
@@ -77,7 +77,7 @@ _pdgf() {
         current=${current#*=}
     fi
     if [ -n "$option" ]; then
-        _pdgf_value "$option" "$current" "$schema"
+        _pdgf_value "$option" "$current" "$schema" "$mode"
         COMPREPLY=("${COMPREPLY[@]/#/$joined}")
     elif [ -z "$mode" ] && [[ $current != -* ]]; then
         mapfile -t COMPREPLY < <(compgen -W 'snapshot unit apply undo revert details details-unit details-apply row check play sample' -- "$current")

@@ -52,6 +52,13 @@ function __pdgf_tables
     ' $schema
 end
 
+# The formats that the mode takes.
+function __pdgf_formats
+    set -l places (__pdgf_places)
+    printf '%s\n' copy csv
+    test "$places[1]" = apply; or echo sql
+end
+
 complete -c pdgf -f
 complete -c pdgf -n __pdgf_wants_mode -a snapshot -d 'the tables as they stand at unit T'
 complete -c pdgf -n __pdgf_wants_mode -a unit -d 'what unit T deletes, updates and inserts in each table'
@@ -79,7 +86,8 @@ complete -c pdgf -n '__pdgf_takes spec details details-unit details-apply' -l sp
     -d 'the file that declares the detail table'
 complete -c pdgf -n '__pdgf_takes store play' -l store -r -F -a :memory: -d 'the path of the database, or :memory:'
 complete -c pdgf -n '__pdgf_takes size sample' -l size -x -d 'the size of the tables, 1 to 1,000'
-complete -c pdgf -n '__pdgf_takes format snapshot unit apply' -l format -x -a 'copy csv' -d 'the format of rows: copy, the default, or csv'
+complete -c pdgf -n '__pdgf_takes format snapshot unit apply' -l format -x -a '(__pdgf_formats)' \
+    -d 'the format of rows: copy, the default, csv, or sql, which apply doesn\'t take'
 complete -c pdgf -n '__pdgf_takes header snapshot unit apply' -l header -x -a 'none names' -d 'what CSV begins with: none, the default, or names, the names of the columns'
 complete -c pdgf -n '__pdgf_takes workers snapshot unit undo details details-unit sample' -l workers -x \
     -d 'how many workers make the rows, 1 to 64; the default is 4'

@@ -4,8 +4,9 @@ use crate::Ended;
 use crate::grouped::put_grouped;
 use crate::schema::plan_of;
 use pd_outside::Library;
-use request_words::{Mode, Request};
+use request_words::{Format, Mode, Request};
 use schema_plan::Plan;
+use sql_lines::statement_reach;
 use std::alloc::{AllocError, Global};
 
 /// The most bytes that the pages of all workers can have together.
@@ -30,7 +31,7 @@ pub(crate) fn put_range<L: Library>(
     };
     match plan_of(alloc, request.schema.as_str(), library) {
         Some(plan) => put_range_in(&plan, request, option, hints),
-        None if option == "package" => put_pages(hints),
+        None if option == "package" => put_pages("lines", hints),
         None => Ok(()),
     }
 }
@@ -50,10 +51,7 @@ fn put_range_in(
         "table" => put_tables(plan, hints),
         "key" => put_keys(plan, request, hints),
         "package" => put_package(plan, request, hints),
-        "format" => writeln!(
-            hints,
-            "hint: the texts have at most 268,435,456 bytes together, counted in the format copy"
-        ),
+        "format" => put_format(plan, request.format, hints),
         _ => Ok(()),
     }
 }
@@ -119,14 +117,28 @@ fn put_keys(plan: &Plan, request: &Request, hints: &mut String) -> Result<(), Al
     put_numbers("key", base, base.saturating_add(rows - 1), hints)
 }
 
+/// Appends how many bytes a format takes.
+fn put_format(plan: &Plan, format: Format, hints: &mut String) -> Result<(), AllocError> {
+    if format == Format::Csv {
+        return writeln!(
+            hints,
+            "hint: the texts have at most 268,435,456 bytes together, counted in the format copy"
+        );
+    }
+    hints.push_str("hint: a statement has at most 131,072 bytes, and the longest here may have ")?;
+    put_grouped(statement_reach(plan), hints)?;
+    hints.push_str("\n")
+}
+
 /// Appends how many bytes pages can have, and how many rows a package can have then.
 fn put_package(plan: &Plan, request: &Request, hints: &mut String) -> Result<(), AllocError> {
-    put_pages(hints)?;
-    let bytes = match request.mode {
-        Mode::Snapshot | Mode::Unit => plan.reach(),
-        Mode::Undo => plan.reach().saturating_add(UNDO_BYTES),
-        _ => return Ok(()),
+    let (entries, bytes) = match (request.mode, request.format) {
+        (Mode::Snapshot | Mode::Unit, Format::Sql) => ("statements", statement_reach(plan)),
+        (Mode::Snapshot | Mode::Unit, _) => ("lines", plan.reach()),
+        (Mode::Undo, _) => ("lines", plan.reach().saturating_add(UNDO_BYTES)),
+        _ => return put_pages("lines", hints),
     };
+    put_pages(entries, hints)?;
     let pages = PAGES.saturating_mul(u64::from(request.workers));
     let most = PAGE_BYTES
         .checked_div(pages.saturating_mul(bytes))
@@ -137,10 +149,10 @@ fn put_package(plan: &Plan, request: &Request, hints: &mut String) -> Result<(),
     put_numbers("package", 1, most, hints)
 }
 
-/// Appends how many bytes pages can have.
-fn put_pages(hints: &mut String) -> Result<(), AllocError> {
+/// Appends how many bytes pages can have. `entries` is what packages are of.
+fn put_pages(entries: &str, hints: &mut String) -> Result<(), AllocError> {
     writeln!(
         hints,
-        "hint: the pages have at most 67,108,864 bytes together: each worker has 8, and each has room for a package of the longest lines"
+        "hint: the pages have at most 67,108,864 bytes together: each worker has 8, and each has room for a package of the longest {entries}"
     )
 }

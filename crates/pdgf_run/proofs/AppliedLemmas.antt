@@ -1,5 +1,5 @@
 -- Inputs that a plain simulation gives make what it holds later.
-use Rattle.std.proofs.Common.{◌≡◌, ◌<◌, ◌≤◌, ◌+◌, ◌-◌, ◌*◌, ℕ, zero, suc, All, Bool, true, false, List, [], ◌++◌, flat_map, get_or, length, length-append, map, take, Option, None, Some, Result, Ok, Err, cond, inl, inr, ap, arith, refl, subst, sym, ◌∙◌}
+use Rattle.std.proofs.Common.{◌≡◌, ◌≢◌, ◌<◌, ◌≤◌, ◌+◌, ◌-◌, ◌*◌, ℕ, zero, suc, All, Bool, true, false, List, [], ◌++◌, flat_map, get_or, length, length-append, map, take, Option, None, Some, Result, Ok, Err, cond, inl, inr, ap, arith, refl, subst, sym, ◌∙◌}
 use Rattle.std.specs.Prelude.{IfOk, IfSome, nat_lt, if◌then◌else◌}
 use Rattle.std.specs.Option.{option_map}
 use Rattle.std.specs.List.{AllZip, position_or_len, range_with_len}
@@ -47,7 +47,7 @@ use Rattle.update_box.specs.Packages.{chosen_places}
 use Rattle.update_box.specs.Parts.{name_at}
 use Rattle.csv_face.specs.Csv.{BeginInAscii, HasRows}
 use Rattle.request_words.specs.declared.usage.Format.{Format}
-use Rattle.request_words.specs.declared.usage.Format.TheVariants.{Copy, Csv}
+use Rattle.request_words.specs.declared.usage.Format.TheVariants.{Copy, Csv, Sql}
 use Rattle.pdgf_run.specs.Formats.{AreWritten, each_after, made_files}
 use Rattle.pdgf_run.specs.Replay.{AreReplayed, IsMadeIn, IsMadeOf, format_of, input_columns, input_headings, input_limit, input_paths, inputs_at, text_headings, text_name}
 use Rattle.pdgf_run.specs.declared.replay.Replay.{Replay}
@@ -175,6 +175,7 @@ written_made Csv plan r replay places texts rows inputs answer delimits ascii of
       texts-read r.header (layout_of plan).delimiter delimits (input_columns r (columns_at plan places)) texts rows (input_columns-ascii r (columns_at plan places) ascii) of are,
       made,
     ))
+written_made Sql plan r replay places texts rows inputs answer delimits ascii of are headed made = absurd are
 
 -- the names of columns of an accepted schema begin with a letter
 columns-ascii : (plan : Project) → IsAccepted plan → IsInLimits plan → (table : Option ℕ) → IfSome table (λ place. place < length plan.schema.tables) →
@@ -187,10 +188,17 @@ columns-ascii plan is limits table choice =
     names-ascii plan is (get_or places k d) (chosen-within plan table choice k d inside)
     (subst (λ (names : List (List ℕ)). 0 < length names) (get_or-map (column_names plan.schema) places k d [] inside) (columns k [] below).some))
 
--- what is written of texts with rows, in a format
-some_written : (format : Format) (delimiter : ℕ) (texts : List (List ℕ)) → All (λ (text : List ℕ). HasRows delimiter text) texts → (written : List (List ℕ)) × AreWritten format delimiter texts written
-some_written Copy delimiter texts all = (texts, refl)
-some_written Csv delimiter texts all = some-csvs delimiter texts all
+-- what is read was written in a format in which rows are read
+was_read : (format : Format) (delimiter : ℕ) (texts written : List (List ℕ)) → AreWritten format delimiter texts written → format ≢ Sql
+was_read Copy delimiter texts written are = λ same. absurd (cc)
+was_read Csv delimiter texts written are = λ same. absurd (cc)
+was_read Sql delimiter texts written are = λ same. are
+
+-- what is written of texts with rows, in such a format
+some_written : (format : Format) (delimiter : ℕ) (texts : List (List ℕ)) → format ≢ Sql → All (λ (text : List ℕ). HasRows delimiter text) texts → (written : List (List ℕ)) × AreWritten format delimiter texts written
+some_written Copy delimiter texts read all = (texts, refl)
+some_written Csv delimiter texts read all = some-csvs delimiter texts all
+some_written Sql delimiter texts read all = absurd (read refl)
 
 later_due : (plan : Project) (r : Request) (files : List File) (table : Option ℕ) → IsDelimiter (layout_of plan).delimiter → IsAccepted plan → IsInLimits plan → tables_asked plan r ≡ Ok table →
     HoldInputs plan r table files → (due : List File) × AreLaterFiles plan r table due × IsApplyDue plan r files (Ok due)
@@ -204,10 +212,11 @@ later_due plan r files table delimits is_accepted limits asked hold =
     let inputs : List (List ℕ) = inputs_of files (input_paths r replay) in
     let texts : List (List ℕ) = flat_map (table_inputs plan r.from (r.to - r.from)) places in
     let later : List (List ℕ) = map (table_text (generator_of plan) r.to) places in
-    let written = some_written r.format delimiter later (later-rows plan limits r.to table (there table chosen)) in
+    let read : r.format ≢ Sql = was_read r.format delimiter texts hold.written hold.texts in
+    let written = some_written r.format delimiter later read (later-rows plan limits r.to table (there table chosen)) in
     let due : List File = made_files (text_name (format_of replay)) r.out replay.names (each_after (text_headings r.header replay.csv) written.0) in
     let are : AreLaterFiles plan r table due =
-    record { written = written.0; are = subst (λ (f : Format). AreWritten f delimiter later written.0) (sym (format_is r.format plan places)) written.1; due_is = refl } in
+    record { written = written.0; are = subst (λ (f : Format). AreWritten f delimiter later written.0) (sym (format_is r.format plan places read)) written.1; due_is = refl } in
     let within : r.to ≤ last_unit plan = not_less (layout_of plan).units r.to second.0 in
     let order : r.from ≤ r.to = not_less r.to r.from first.0 in
     let made : IsMadeOf delimiter r replay texts (Ok due) = (

@@ -4,7 +4,7 @@ use Rattle.std.specs.List.{range_with_len}
 use Rattle.std.proofs.lemmas.List.FromFn.{length-map-range_with_len}
 use Rattle.detail_plan.specs.declared.detail.Detail.{Detail}
 use Rattle.request_words.specs.declared.usage.Format.{Format}
-use Rattle.request_words.specs.declared.usage.Format.TheVariants.{Copy, Csv}
+use Rattle.request_words.specs.declared.usage.Format.TheVariants.{Copy, Csv, Sql}
 use Rattle.schema_plan.specs.Dictionaries.{Project}
 use Rattle.schema_plan.specs.Layout.{layout_of}
 use Rattle.schema_plan.specs.Limits.{IsInLimits}
@@ -100,6 +100,7 @@ module _ (plan : Project) (limits : IsInLimits plan) (table : Option ℕ) (first
   csv-can : (format : Format) → IfSome table (λ place. place < length plan.schema.tables) → (long : ℕ) → long ≡ count →
       IfSome (columns_by format plan (range_with_len first count)) (IsCsvOfTables (way.Apply One) long)
   csv-can Copy choice long is = tt
+  csv-can Sql choice long is = tt
   csv-can Csv choice long is = record {
     applies = refl;
     alike = length-map-range_with_len (column_names plan.schema) first count ∙ sym is;

@@ -8,7 +8,7 @@ use Rattle.csv_face.proofs.BackLemmas.{bad-one, csv-one, read-none_bad, read-one
 use Rattle.csv_face.proofs.NamedLemmas.{named-bad_one, named-none_bad}
 use Rattle.csv_face.specs.Csv.{IsCsvOf}
 use Rattle.request_words.specs.declared.usage.Format.{Format}
-use Rattle.request_words.specs.declared.usage.Format.TheVariants.{Copy, Csv}
+use Rattle.request_words.specs.declared.usage.Format.TheVariants.{Copy, Csv, Sql}
 use Rattle.request_words.specs.declared.usage.Header.{Header}
 use Rattle.request_words.specs.declared.usage.Header.TheVariants as header
 use Rattle.row_text.specs.Fields.{IsDelimiter}
@@ -142,6 +142,7 @@ pub one_written : (format : Format) (delimiter : ℕ) (texts written other : Lis
 one_written Copy delimiter texts written other delimits is other_is = is ∙ sym other_is
 one_written Csv delimiter texts written other delimits is other_is =
     one_image (IsCsvOf delimiter) texts written other (λ text csv csv_2. csv-one delimiter text csv csv_2 delimits) is other_is
+one_written Sql delimiter texts written other delimits is other_is = absurd is
 
 -- ---- what is read
 

@@ -35,7 +35,7 @@ use Rattle.pdgf_run.specs.Formats.{in_directory}
 use Rattle.pdgf_run.specs.Replay.{names_by, possible_of}
 use Rattle.pdgf_run.specs.declared.replay.Way.TheVariants as way
 use Rattle.pdgf_run.specs.modes.Apply.{apply_of, tables_asked}
-use Rattle.pdgf_run.proofs.KeyedTextLemmas.{format_is}
+use Rattle.pdgf_run.proofs.KeyedTextLemmas.{format_alike}
 use Rattle.pdgf_run.specs.Playing.{task_due}
 use Rattle.pdgf_run.specs.ReadingList.{AsksInMode, AsksInTurn, names_behind, names_in_mode, possible_behind, possible_in_mode, possible_list, reading_list, reads_schema}
 use Rattle.pdgf_run.specs.TopCall.{IsLimitOf, IsLimitRefused, IsLimitTold, LibraryDone, LibraryLeft, reads_for}
@@ -288,7 +288,7 @@ same-possible : (r : Request) (plan : Project) (asked : Result (Option ℕ) JobF
 same-possible r plan (Err fault) = refl
 same-possible r plan (Ok table) =
     ap (λ (format : Format). map (in_directory r.source) (flat_map (names_by (way.Apply One) format r.from r.to) (map (name_at plan.schema) (chosen_places plan table))))
-    (format_is r.format plan (chosen_places plan table) ∙ sym (format_is r.format (project_of plan.schema []) (chosen_places plan table)))
+    (format_alike r.format plan (project_of plan.schema []) (chosen_places plan table))
 
 possible_same : (mode : Mode) (r : Request) (plan : Project) (details : List ℕ) → possible_in_mode mode r plan details ≡ possible_in_mode mode r (project_of plan.schema []) details
 possible_same Check r plan details = refl

@@ -29,12 +29,12 @@ use Rattle.detail_rows.specs.declared.packer.PackedRows.{PackedRows}
 use Rattle.detail_rows.specs.declared.packer.PackedRows.TheVariants as rows
 use Rattle.detail_rows.proofs.DeclaredLemmas.{parent-below}
 use Rattle.pdgf_run.proofs.DetailTextLemmas.{all-text, born-text, keys-whole, lines-whole, packages-whole}
-use Rattle.pdgf_run.specs.DueFiles.{text_files}
+use Rattle.pdgf_run.specs.DueFiles.{contents_of, text_files}
 use Rattle.pdgf_run.specs.Formats.{named_files}
 use Rattle.pdgf_run.specs.Joined.{joined_text, part_files, whole_text}
 use Rattle.pdgf_run.specs.declared.job.Told.{Told}
 use Rattle.pdgf_run.specs.declared.job.Told.TheVariants.{Changes, Text}
-use Rattle.pdgf_run.specs.modes.Details.{contents_of, files_by, is_refused}
+use Rattle.pdgf_run.specs.modes.Details.{files_by, is_refused}
 use Rattle.pdgf_run.proofs.DetailsApplyLemmas.{once_at_most}
 use Rattle.pdgf_run.proofs.JoinedLemmas.{sum_by-push}
 

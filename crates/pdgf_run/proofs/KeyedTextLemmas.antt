@@ -1,5 +1,5 @@
 -- The texts of tables and of what units change in them as rows whose first field is a key, written as CSV and read back.
-use Rattle.std.proofs.Common.{◌≡◌, ◌<◌, ◌≤◌, ◌+◌, ◌-◌, ◌*◌, ◌^◌, ℕ, zero, suc, Bool, true, false, All, List, [], ◌∷◌, ◌++◌, decimal, flat_map, get_or, length, length-append, map, take, Option, None, Some, inl, inr, ap, arith, refl, subst, sym, ◌∙◌}
+use Rattle.std.proofs.Common.{◌≡◌, ◌≢◌, ◌<◌, ◌≤◌, ◌+◌, ◌-◌, ◌*◌, ◌^◌, ℕ, zero, suc, Bool, true, false, All, List, [], ◌∷◌, ◌++◌, decimal, flat_map, get_or, length, length-append, map, take, Option, None, Some, inl, inr, ap, arith, refl, subst, sym, ◌∙◌}
 use Rattle.std.specs.Prelude.{IfSome, ◌==◌, not, ◌||◌, zip}
 use Rattle.std.specs.List.{AllZip, list_any, range_with_len}
 use Rattle.std.specs.Str.Parse.{AllDigits}
@@ -35,7 +35,7 @@ use Rattle.update_box.proofs.KeyLineLemmas.{key-small}
 use Rattle.update_box.proofs.KeyedTextLemmas.{body_text, key_text, keyed-text, table_text-rows, unit_streams-lines}
 use Rattle.update_box.proofs.UpdateLemmas.{changes_at}
 use Rattle.request_words.specs.declared.usage.Format.{Format}
-use Rattle.request_words.specs.declared.usage.Format.TheVariants.{Copy, Csv}
+use Rattle.request_words.specs.declared.usage.Format.TheVariants.{Copy, Csv, Sql}
 use Rattle.request_words.specs.declared.usage.Header.{Header}
 use Rattle.request_words.specs.declared.usage.Header.TheVariants as header
 use Rattle.request_words.specs.declared.usage.Request.{Request}
@@ -201,10 +201,17 @@ chosen-within plan (Some place) choice = All-cons (λ (p : ℕ). p < length plan
 abbrev pub columns_at : Project → List ℕ → List (List (List ℕ))
 columns_at plan places = map (column_names plan.schema) places
 
--- they are told where a format wants them
-pub format_is : (format : Format) (plan : Project) (places : List ℕ) → format_by (columns_by format plan places) ≡ format
-format_is Copy plan places = refl
-format_is Csv plan places = refl
+-- they are told where a format wants them in which rows are read
+pub format_is : (format : Format) (plan : Project) (places : List ℕ) → format ≢ Sql → format_by (columns_by format plan places) ≡ format
+format_is Copy plan places read = refl
+format_is Csv plan places read = refl
+format_is Sql plan places read = absurd (read refl)
+
+-- and no plan changes where
+pub format_alike : (format : Format) (plan other : Project) (places : List ℕ) → format_by (columns_by format plan places) ≡ format_by (columns_by format other places)
+format_alike Copy plan other places = refl
+format_alike Csv plan other places = refl
+format_alike Sql plan other places = refl
 
 tables-keyed : (plan : Project) → IsInLimits plan → (r : Request) → r.from ≤ r.to → r.to ≤ last_unit plan → (places : List ℕ) → All (λ place. place < length plan.schema.tables) places →
     AllZip (IsKeyedOf (layout_of plan).delimiter) (input_columns r (columns_at plan places)) (flat_map (table_inputs plan r.from (r.to - r.from)) places)

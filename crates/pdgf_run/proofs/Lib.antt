@@ -32,3 +32,4 @@ mod UndoLawLemmas
 mod ListLemmas
 mod RevertedLemmas
 pub mod UndoLemmas
+mod SqlLemmas

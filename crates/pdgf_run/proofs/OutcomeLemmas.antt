@@ -10,7 +10,7 @@ use Rattle.refusals.specs.declared.refusal.Refusal.{Refusal}
 use Rattle.refusals.specs.declared.refusal.Refusal.TheVariants as refusal
 use Rattle.request_words.specs.Words.{request}
 use Rattle.request_words.specs.declared.usage.Format.{Format}
-use Rattle.request_words.specs.declared.usage.Format.TheVariants.{Copy, Csv}
+use Rattle.request_words.specs.declared.usage.Format.TheVariants.{Copy, Csv, Sql}
 use Rattle.request_words.specs.declared.usage.Mode.TheVariants.{Check, Snapshot, Unit, Row, Apply, Sample, Play, Details, DetailsUnit, DetailsApply, Undo, Revert}
 use Rattle.request_words.specs.declared.usage.Mode.{Mode}
 use Rattle.request_words.specs.declared.usage.Request.{Request}
@@ -22,12 +22,14 @@ use Rattle.schema_plan.specs.TableFacts.{reach}
 use Rattle.stream_apply.specs.declared.key_fields.KeyFields.TheVariants.{One}
 use Rattle.pdgf_run.specs.Verdict.{IsInMode, IsOfRequest, IsPlanned, IsVerdict, plan_for}
 use Rattle.update_box.specs.Packages.{chosen_places}
-use Rattle.update_box.specs.Parts.{parts_of, snapshot_contents, unit_contents}
+use Rattle.update_box.specs.Parts.{parts_of}
 use Rattle.update_box.specs.declared.parts.Content.{Content}
 use Rattle.update_box.specs.declared.parts.Job.{Job}
 use Rattle.pdgf_run.specs.CsvFiles.{IsCsvAsked, IsCsvUnless, IsDueIn, csv_limit, job_headings, texts_asked}
-use Rattle.pdgf_run.specs.DueFiles.{most_page_bytes, package_of, page_bytes, text_files}
+use Rattle.pdgf_run.specs.DueFiles.{contents_of, most_page_bytes, package_of, page_bytes, text_files}
 use Rattle.pdgf_run.specs.Formats.{each_after, file_name, made_files}
+use Rattle.pdgf_run.specs.declared.job.Told.{Told}
+use Rattle.pdgf_run.specs.declared.job.Told.TheVariants.{Changes, Text}
 use Rattle.pdgf_run.specs.modes.Apply.{apply_of, tables_asked}
 use Rattle.pdgf_run.specs.modes.Sample.{IsLaterText, IsSampleUnless, later_units, summary_of, text_and_changes}
 use Rattle.detail_plan.specs.declared.detail.Detail.{Detail}
@@ -58,10 +60,11 @@ one_csv_asked contents r plan (Ok job) answer other delimits is other_is =
     one_csv_unless (nat_lt csv_limit (sum_by length (texts_asked contents plan job))) contents plan r job answer other delimits is other_is
 one_csv_asked contents r plan (Err fault) answer other delimits is other_is = is ∙ sym other_is
 
-one_due_in : (format : Format) (contents : List Content) (r : Request) (plan : Project) (job : Result Job JobFault) (answer other : Result (List File) JobFault) →
-    IsDelimiter (layout_of plan).delimiter → IsDueIn format contents r plan job answer → IsDueIn format contents r plan job other → answer ≡ other
-one_due_in Copy contents r plan job answer other delimits is other_is = is ∙ sym other_is
-one_due_in Csv contents r plan job answer other delimits is other_is = one_csv_asked contents r plan job answer other delimits is other_is
+one_due_in : (format : Format) (told : Told) (r : Request) (plan : Project) (job : Result Job JobFault) (answer other : Result (List File) JobFault) →
+    IsDelimiter (layout_of plan).delimiter → IsDueIn format told r plan job answer → IsDueIn format told r plan job other → answer ≡ other
+one_due_in Copy told r plan job answer other delimits is other_is = is ∙ sym other_is
+one_due_in Csv told r plan job answer other delimits is other_is = one_csv_asked (contents_of told) r plan job answer other delimits is other_is
+one_due_in Sql told r plan job answer other delimits is other_is = is ∙ sym other_is
 
 -- a sample's summary
 one_later : (plan : Project) (place : ℕ) (text other : List ℕ) → IsDelimiter (layout_of plan).delimiter → IsLaterText plan place text → IsLaterText plan place other → text ≡ other
@@ -88,8 +91,8 @@ one_declared plan r files (Err cause) answer other delimits is other_is = is ∙
 one_in_mode : (mode : Mode) (r : Request) (plan : Project) (files : List File) (answer other : Result (List File) JobFault) → IsDelimiter (layout_of plan).delimiter →
     IsInMode mode r plan files answer → IsInMode mode r plan files other → answer ≡ other
 one_in_mode Check r plan files answer other delimits is other_is = is ∙ sym other_is
-one_in_mode Snapshot r plan files answer other delimits is other_is = one_due_in r.format snapshot_contents r plan (snapshot_asked r plan) answer other delimits is other_is
-one_in_mode Unit r plan files answer other delimits is other_is = one_due_in r.format unit_contents r plan (unit_asked r plan) answer other delimits is other_is
+one_in_mode Snapshot r plan files answer other delimits is other_is = one_due_in r.format Text r plan (snapshot_asked r plan) answer other delimits is other_is
+one_in_mode Unit r plan files answer other delimits is other_is = one_due_in r.format Changes r plan (unit_asked r plan) answer other delimits is other_is
 one_in_mode Row r plan files answer other delimits is other_is = is ∙ sym other_is
 one_in_mode Apply r plan files answer other delimits is other_is =
     one_replay (apply_of plan r) (layout_of plan).delimiter r files (tables_asked plan r) answer other delimits is other_is

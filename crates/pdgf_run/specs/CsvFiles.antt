@@ -5,7 +5,7 @@ use Rattle.pd_outside.specs.Files.{File}
 use Rattle.refusals.specs.declared.refusal.JobFault.{JobFault}
 use Rattle.refusals.specs.declared.refusal.JobFault.TheVariants.{Range}
 use Rattle.request_words.specs.declared.usage.Format.{Format}
-use Rattle.request_words.specs.declared.usage.Format.TheVariants.{Copy, Csv}
+use Rattle.request_words.specs.declared.usage.Format.TheVariants.{Copy, Csv, Sql}
 use Rattle.request_words.specs.declared.usage.Header.{Header}
 use Rattle.request_words.specs.declared.usage.OptionName.TheVariants as option
 use Rattle.request_words.specs.declared.usage.Request.{Request}
@@ -18,8 +18,10 @@ use Rattle.update_box.specs.Parts.{Part, parts_of}
 use Rattle.update_box.specs.declared.parts.Content.{Content}
 use Rattle.update_box.specs.declared.parts.Job.{Job}
 use Rattle.plan_stages.specs.Stages.{on_ok}
-use Rattle.pdgf_run.specs.DueFiles.{table_files}
+use Rattle.pdgf_run.specs.DueFiles.{contents_of, table_files}
 use Rattle.pdgf_run.specs.Formats.{AreCsvOf, each_after, file_name, header_at, heading_of, made_files, names_for}
+use Rattle.pdgf_run.specs.SqlFiles.{statement_files}
+use Rattle.pdgf_run.specs.declared.job.Told.{Told}
 
 -- the most bytes that the texts in COPY text form have together of which CSV is made
 abbrev pub csv_limit : ℕ
@@ -53,7 +55,8 @@ abbrev pub IsCsvAsked : List Content → Request → Project → Result Job JobF
 IsCsvAsked contents request plan (Err fault) answer = answer ≡ Err fault
 IsCsvAsked contents request plan (Ok job) answer = IsCsvOfJob contents plan request job answer
 
--- the files of such contents of the tables that are asked for, in a format
-abbrev pub IsDueIn : Format → List Content → Request → Project → Result Job JobFault → Result (List File) JobFault → Type 0
-IsDueIn Copy contents request plan job answer = answer ≡ on_ok job (λ j. Ok (table_files contents plan request.out j))
-IsDueIn Csv contents request plan job answer = IsCsvAsked contents request plan job answer
+-- the files of what is told of the tables that are asked for, in a format
+abbrev pub IsDueIn : Format → Told → Request → Project → Result Job JobFault → Result (List File) JobFault → Type 0
+IsDueIn Copy told request plan job answer = answer ≡ on_ok job (λ j. Ok (table_files (contents_of told) plan request.out j))
+IsDueIn Csv told request plan job answer = IsCsvAsked (contents_of told) request plan job answer
+IsDueIn Sql told request plan job answer = answer ≡ on_ok job (λ j. Ok (statement_files told plan request.out j))

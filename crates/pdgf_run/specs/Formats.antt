@@ -4,7 +4,7 @@ use Rattle.std.specs.List.{AllZip}
 use Rattle.pd_outside.specs.Files.{File}
 use Rattle.csv_face.specs.Csv.{IsCopyText, IsCsvOf, Row, names_text}
 use Rattle.request_words.specs.declared.usage.Format.{Format}
-use Rattle.request_words.specs.declared.usage.Format.TheVariants.{Copy, Csv}
+use Rattle.request_words.specs.declared.usage.Format.TheVariants.{Copy, Csv, Sql}
 use Rattle.request_words.specs.declared.usage.Header.{Header}
 use Rattle.request_words.specs.declared.usage.Header.TheVariants as header
 use Rattle.schema_model.specs.declared.table.Schema.{Schema}
@@ -15,12 +15,16 @@ use Rattle.pdgf_run.specs.DueFiles.{text_files}
 
 -- ---- names
 
--- how the name of a file ends that holds nothing but this content of a table at a unit: CSV of a table has an ending of its own, and CSV
--- of what a unit changes one more
+-- how the name of a file ends in a format that has an ending of its own: a table's file has this one, and a file of what a unit changes one more
+abbrev pub ending_with : List ℕ → ℕ → Content → List ℕ
+ending_with ending unit content.Snapshot = ending
+ending_with ending unit content = ending_of unit content ++ ending
+
+-- how the name of a file ends that holds nothing but this content of a table at a unit
 abbrev pub ending_in : Format → ℕ → Content → List ℕ
 ending_in Copy unit content = ending_of unit content
-ending_in Csv unit content.Snapshot = codes ".csv"
-ending_in Csv unit content = ending_of unit content ++ codes ".csv"
+ending_in Csv unit content = ending_with (codes ".csv") unit content
+ending_in Sql unit content = ending_with (codes ".sql") unit content
 
 -- the name of a file that holds a part at a unit, without its directory
 abbrev pub file_name : Format → Schema → ℕ → Part → List ℕ
@@ -88,7 +92,8 @@ AreRowsOf delimiter names texts = AllZip (IsOfNames delimiter) names texts
 abbrev pub AreCsvOf : ℕ → List (List ℕ) → List (List ℕ) → Type 0
 AreCsvOf delimiter texts csvs = AllZip (IsCsvOf delimiter) texts csvs
 
--- texts in COPY text form, and what is written for them in a format
+-- texts in COPY text form, and what is written for them in a format: none is written as statements, which aren't read
 abbrev pub AreWritten : Format → ℕ → List (List ℕ) → List (List ℕ) → Type 0
 AreWritten Copy delimiter texts written = written ≡ texts
 AreWritten Csv delimiter texts written = AreCsvOf delimiter texts written
+AreWritten Sql delimiter texts written = ⊥

@@ -10,20 +10,27 @@ use Rattle.life_intervals.specs.JobOrders.{AreOrdersOf}
 use Rattle.schema_plan.specs.Layout.{layout_of}
 use Rattle.schema_plan.specs.TableFacts.{reach}
 use Rattle.update_box.specs.Packages.{IsJobOf, chosen_places}
-use Rattle.update_box.specs.Parts.{snapshot_contents, unit_contents}
-use Rattle.update_box.specs.Prepared.{AreChosen, ArePrepared}
+use Rattle.update_box.specs.Parts.{Part, snapshot_contents, unit_contents}
+use Rattle.update_box.specs.Prepared.{AreChosen, ArePrepared, IsAmong}
+use Rattle.update_box.specs.declared.parts.Content.{Content}
+use Rattle.update_box.specs.declared.parts.Content.TheVariants as content
 use Rattle.undo_streams.specs.Places.{places_of}
 use Rattle.update_box.specs.TableLists.{HoldLists, table_lists_at}
 use Rattle.update_box.specs.UnitLists.{UnitLists}
-use Rattle.pdgf_run.specs.DueFiles.{most_page_bytes, page_bytes, table_files, text_files}
+use Rattle.sql_lines.specs.Reach.{statement_reach}
+use Rattle.pdgf_run.specs.DueFiles.{contents_of, most_page_bytes, page_bytes, table_files, text_files, told_by}
 use Rattle.pdgf_run.specs.declared.job.DetailsJob.{DetailsJob}
 use Rattle.pdgf_run.specs.declared.job.Job.{Job}
-use Rattle.pdgf_run.specs.declared.job.Job.TheVariants.{Details, Files, Text, Page, Snapshot, Undo, Unit}
+use Rattle.pdgf_run.specs.declared.job.Job.TheVariants.{Details, Files, Text, Page, Script, Snapshot, Undo, Unit}
+use Rattle.pdgf_run.specs.declared.job.ScriptJob.{ScriptJob}
 use Rattle.pdgf_run.specs.declared.job.TablesJob.{TablesJob}
+use Rattle.pdgf_run.specs.declared.job.Told.{Told}
+use Rattle.pdgf_run.specs.declared.job.Told.TheVariants as telling
 use Rattle.pdgf_run.specs.declared.job.UndoJob.{UndoJob}
 use Rattle.pdgf_run.specs.declared.job.UnitJob.{UnitJob}
 use Rattle.pdgf_run.specs.Formats.{named_files}
-use Rattle.pdgf_run.specs.modes.Details.{contents_of, files_by, told_by, told_texts}
+use Rattle.pdgf_run.specs.SqlFiles.{statement_files}
+use Rattle.pdgf_run.specs.modes.Details.{files_by, told_texts}
 use Rattle.pdgf_run.specs.modes.Undo.{undo_files, undo_reach}
 
 -- the numbers of a request that asks of tables are within their ranges: the workers, and the lines of a package where they are given
@@ -46,6 +53,7 @@ due_of (Text bytes) = text_files bytes.items
 due_of (Page page) = text_files page.text
 due_of (Snapshot job) = table_files snapshot_contents job.plan job.out job.asked
 due_of (Unit job) = table_files unit_contents job.of.plan job.of.out job.of.asked
+due_of (Script job) = statement_files (told_by job.changes) job.of.plan job.of.out job.of.asked
 due_of (Undo job) = undo_files job.of.of.plan job.of.of.out job.of.of.asked
 due_of (Files job) = named_files job.names job.texts
 due_of (Details job) = files_by job.names (told_texts (told_by job.changes) job.plan job.detail job.unit)
@@ -65,6 +73,22 @@ pub record CanPackUnit (job : UnitJob) : Type 0 where
   pub of : CanPack job.of
   pub later : 1 ≤ job.of.asked.unit
   pub found : HoldLists job.of.plan job.of.asked.unit job.of.asked.table job.rows
+
+-- a job of statements: the pages take these too, and where changes are told, what the unit changes was found
+pub record CanState (job : ScriptJob) : Type 0 where
+  pub of : CanPack job.of
+  pub pages : page_bytes job.of.workers job.of.asked.package (statement_reach (layout_of job.of.plan)) ≤ most_page_bytes
+  pub found : IfSome job.changes (λ (lists : UnitLists). HoldLists job.of.plan job.of.asked.unit job.of.asked.table lists)
+
+-- of a table's rows at a unit the snapshot is told
+abbrev pub IsToldAs : Told → Content → Type 0
+IsToldAs telling.Text it = it ≡ content.Snapshot
+IsToldAs telling.Changes it = ⊤
+
+-- a part of a job of statements
+pub record IsPartOf (job : ScriptJob) (part : Part) : Type 0 where
+  pub among : IsAmong job.of.tables part.place
+  pub told : IsToldAs (told_by job.changes) part.content
 
 -- the places that the rows which a unit deletes had at the unit before, table by table
 abbrev pub HasPlaces : UnitJob → List (Vec ℕ Global) → Type 0
@@ -100,6 +124,7 @@ CanFill (Text bytes) = ⊤
 CanFill (Page page) = ⊤
 CanFill (Snapshot job) = CanPack job
 CanFill (Unit job) = CanPackUnit job
+CanFill (Script job) = CanState job
 CanFill (Undo job) = CanUndo job
 CanFill (Files job) = length job.names ≡ length job.texts
 CanFill (Details job) = CanPackDetails job

@@ -12,4 +12,5 @@ pub mod TopCall
 pub mod Verdict
 pub mod modes
 pub mod Sampled
+pub mod SqlFiles
 pub mod UndoLaws

@@ -9,6 +9,7 @@ ghost use Rattle.pdgf_run.specs.Formats.{named_files};
 
 use crate::job::{FilesJob, Job};
 use crate::modes::{details, snapshot, undo, unit};
+use crate::sql;
 use pd_outside::{Failed, Gate, Shelf, WriteFailed, write_all};
 use range_workers::RunFault;
 use schema_model::Text as Name;
@@ -94,6 +95,7 @@ pub(crate) fn fill<R: Threads + Sync, S: Shelf, G: Gate + Sync>(
         Job::Files(job) => write_files(shelf, job),
         Job::Snapshot(job) => snapshot::write_snapshot(rt, alloc, job, shelf, gate),
         Job::Unit(job) => unit::write_unit(rt, alloc, job, shelf, gate),
+        Job::Script(job) => sql::write_script(rt, alloc, job, shelf, gate),
         Job::Undo(job) => undo::write_undo(rt, alloc, job, shelf, gate),
         Job::Details(job) => details::write_details(rt, alloc, job, shelf, gate),
     }

@@ -1,6 +1,6 @@
 //! What a request comes to, before anything is written.
 
-ghost use Rattle.std.specs.Prelude.{◌≡◌, ◌≤◌, IfOk};
+ghost use Rattle.std.specs.Prelude.{◌≡◌, ◌≤◌, IfOk, Some};
 ghost use Rattle.schema_plan.specs.Layout.{layout_of};
 ghost use Rattle.schema_plan.specs.TableFacts.{reach};
 ghost use Rattle.update_box.specs.Packages.{IsJobOf};
@@ -28,6 +28,8 @@ pub(crate) enum Job {
     Snapshot(TablesJob),
     /// What a unit changes in tables.
     Unit(UnitJob),
+    /// The rows of tables at a unit, or what the unit changes in them, as statements of SQL.
+    Script(ScriptJob),
     /// The undo texts of tables: they take the texts from a unit back to the unit before.
     Undo(UndoJob),
     /// Texts, each for a file of its own.
@@ -43,6 +45,7 @@ impl Drop for Job {
             Job::Page(it) => drop(it),
             Job::Snapshot(it) => drop(it),
             Job::Unit(it) => drop(it),
+            Job::Script(it) => drop(it),
             Job::Undo(it) => drop(it),
             Job::Files(it) => drop(it),
             Job::Details(it) => drop(it),
@@ -196,6 +199,33 @@ impl UnitJob {
         drop(rows);
         of.into_plan()
     }
+
+    /// Returns the job that tells the same as statements of SQL.
+    pub(crate) fn into_script(self) -> ScriptJob
+        ensures { result ≡ record { of = self.of; changes = Some self.rows } }
+    {
+        let UnitJob { of, rows } = self;
+        ScriptJob {
+            of,
+            changes: Some(rows),
+        }
+    }
+}
+
+/// A job of statements of SQL over a plan's tables.
+pub(crate) struct ScriptJob {
+    /// The tables, and what is asked of them.
+    pub(crate) of: TablesJob,
+    /// What the unit changes in the tables, if that is told; None for the rows at the unit.
+    pub(crate) changes: Option<UnitRows>,
+}
+
+impl Drop for ScriptJob {
+    fn drop(self) {
+        let ScriptJob { of, changes } = self;
+        drop(of);
+        drop(changes);
+    }
 }
 
 /// A job of the undo texts of a plan's tables.
@@ -214,7 +244,7 @@ impl Drop for UndoJob {
     }
 }
 
-/// Which text of a detail table is made: its own at a unit, or what a unit changes in it.
+/// Which text of a table or a detail table is made: its own at a unit, or what a unit changes in it.
 #[derive(Clone, Copy)]
 pub(crate) enum Told {
     Text,

@@ -19,6 +19,7 @@ mod play;
 mod replay;
 mod report;
 mod run;
+mod sql;
 mod text_shelf;
 mod unit_sources;
 

@@ -3,7 +3,7 @@
 ghost use Rattle.std.specs.Prelude.{◌≡◌, ◌<◌, ◌≤◌, ◌+◌, ◌++◌, ◌∷◌, [], IfOk, OnOk, length, map};
 ghost use Rattle.std.specs.List.{range_with_len};
 ghost use Rattle.update_box.specs.Parts.{name_at, parts_at, parts_of};
-ghost use Rattle.pdgf_run.specs.Formats.{ending_in, file_name, in_directory, undo_name_of};
+ghost use Rattle.pdgf_run.specs.Formats.{ending_in, ending_with, file_name, in_directory, undo_name_of};
 ghost use Rattle.pdgf_run.specs.modes.Undo.{undo_path};
 
 use itoa::Buffer;
@@ -87,16 +87,27 @@ pub(crate) fn push_ending_in(
 {
     match format {
         Format::Copy => push_ending(name, unit, content),
-        Format::Csv => {
-            match content {
-                Content::Snapshot => {}
-                Content::Deleted | Content::Updated | Content::Inserted => {
-                    push_ending(name, unit, content)?
-                }
-            }
-            push(name, ".csv")
+        Format::Csv => push_ending_with(name, ".csv", unit, content),
+        Format::Sql => push_ending_with(name, ".sql", unit, content),
+    }
+}
+
+/// Appends the ending of a file's name in a format that has an ending of its own.
+fn push_ending_with(
+    name: &mut Text,
+    ending: &str,
+    unit: u64,
+    content: Content,
+) -> Result<(), Memory>
+    ensures { OnOk result (name.new ≡ name.old ++ ending_with ending.now unit content) }
+{
+    match content {
+        Content::Snapshot => {}
+        Content::Deleted | Content::Updated | Content::Inserted => {
+            push_ending(name, unit, content)?
         }
     }
+    push(name, ending)
 }
 
 /// Appends the name of the file of a table's undo text of a unit.

@@ -3,14 +3,14 @@ use Rattle.std.proofs.Common.{◌≢◌, ℕ, Bool, true, false, List, [], ◌�
 use Rattle.std.specs.Prelude.{⊤, if◌then◌else◌, IfErr, IfSome, is_some}
 use Rattle.std.specs.Option.{option_and_then, option_or}
 use Rattle.request_words.specs.Form.{given_in, has_form, mode_in}
-use Rattle.request_words.specs.Options.{Given, format_given, format_named, header_given, header_named, is_number_of, mode_named, order, request_of, takes}
+use Rattle.request_words.specs.Options.{Given, format_given, format_named, header_given, header_named, input_format_named, is_number_of, mode_named, order, request_of, takes}
 use Rattle.request_words.specs.Words.{fault_of, first_fault, header_fault, of_mode, option_fault, request, unless_fault, value_fault}
 use Rattle.request_words.specs.declared.options.Form.{Form}
-use Rattle.request_words.specs.declared.options.Form.TheVariants.{Text, Number, FromOneTo, Directory, FormatName, HeaderName}
+use Rattle.request_words.specs.declared.options.Form.TheVariants.{Text, Number, FromOneTo, Directory, FormatName, InputFormat, HeaderName}
 use Rattle.request_words.specs.declared.options.Take.{Take}
 use Rattle.request_words.specs.declared.options.Take.TheVariants.{Unwanted, Optional, Preset, Needed}
 use Rattle.request_words.specs.declared.usage.Format.{Format}
-use Rattle.request_words.specs.declared.usage.Format.TheVariants.{Copy, Csv}
+use Rattle.request_words.specs.declared.usage.Format.TheVariants.{Copy, Csv, Sql}
 use Rattle.request_words.specs.declared.usage.Header.{Header}
 use Rattle.request_words.specs.declared.usage.Header.TheVariants as header
 use Rattle.request_words.specs.declared.usage.Mode.{Mode}
@@ -44,6 +44,7 @@ value_fault-of_words (FromOneTo most) name value = number_fault-of_words name (i
 value_fault-of_words Directory name [] = tt
 value_fault-of_words Directory name (byte ∷ value) = tt
 value_fault-of_words FormatName name value = format_fault-of_words (is_some (format_named value))
+value_fault-of_words InputFormat name value = format_fault-of_words (is_some (input_format_named value))
 value_fault-of_words HeaderName name value = header_name-of_words (is_some (header_named value))
 
 option_fault-of_words : (take : Take) (name : OptionName) (value : Option (List ℕ)) → IfSome (option_fault take name value) IsOfWords
@@ -69,6 +70,7 @@ header_fault-of_words : (h : Header) (format : Format) → IfSome (header_fault 
 header_fault-of_words header.None format = tt
 header_fault-of_words header.Names Copy = tt
 header_fault-of_words header.Names Csv = tt
+header_fault-of_words header.Names Sql = tt
 
 fault_of-of_words : (mode : Mode) (given : Given) → IfSome (fault_of mode given) IsOfWords
 fault_of-of_words mode given =

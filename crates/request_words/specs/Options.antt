@@ -6,11 +6,11 @@ use Rattle.std.specs.Option.{option_and_then}
 use Rattle.std.specs.Str.{bytes_eq}
 use Rattle.std.specs.Str.Parse.{digits_value}
 use Rattle.request_words.specs.declared.options.Form.{Form}
-use Rattle.request_words.specs.declared.options.Form.TheVariants.{Text, Number, FromOneTo, Directory, FormatName, HeaderName}
+use Rattle.request_words.specs.declared.options.Form.TheVariants.{Text, Number, FromOneTo, Directory, FormatName, InputFormat, HeaderName}
 use Rattle.request_words.specs.declared.options.Take.{Take}
 use Rattle.request_words.specs.declared.options.Take.TheVariants.{Unwanted, Optional, Preset, Needed}
 use Rattle.request_words.specs.declared.usage.Format.{Format}
-use Rattle.request_words.specs.declared.usage.Format.TheVariants.{Copy, Csv}
+use Rattle.request_words.specs.declared.usage.Format.TheVariants.{Copy, Csv, Sql}
 use Rattle.request_words.specs.declared.usage.Header.{Header}
 use Rattle.request_words.specs.declared.usage.Header.TheVariants as header
 use Rattle.request_words.specs.declared.usage.Mode.{Mode}
@@ -35,9 +35,13 @@ mode_named word =
     else (if bytes_eq word (codes "undo") then Some Undo
     else (if bytes_eq word (codes "revert") then Some Revert else None)))))))))))
 
+-- the format of this name of those in which rows are read, too
+abbrev pub input_format_named : List ℕ → Option Format
+input_format_named word = if bytes_eq word (codes "copy") then Some Copy else (if bytes_eq word (codes "csv") then Some Csv else None)
+
 -- the format of this name
 abbrev pub format_named : List ℕ → Option Format
-format_named word = if bytes_eq word (codes "copy") then Some Copy else (if bytes_eq word (codes "csv") then Some Csv else None)
+format_named word = if bytes_eq word (codes "sql") then Some Sql else input_format_named word
 
 -- what files in CSV begin with, by this name
 abbrev pub header_named : List ℕ → Option Header
@@ -64,6 +68,16 @@ option_line option.Format = (codes "format", FormatName, None)
 option_line option.Store = (codes "store", Text, None)
 option_line option.Spec = (codes "spec", Text, None)
 option_line option.Header = (codes "header", HeaderName, None)
+
+-- what a value of a form has to be in a mode that reads rows: statements aren't read
+abbrev pub input_form : Form → Form
+input_form FormatName = InputFormat
+input_form form = form
+
+-- what an option's value has to be in a mode
+abbrev pub form_in : Mode → OptionName → Form
+form_in Apply name = input_form (option_line name).1
+form_in mode name = (option_line name).1
 
 -- whether a mode needs an option: each but one needs a schema's name
 abbrev pub needs : Mode → OptionName → Bool
@@ -139,7 +153,7 @@ take_by false false form preset = Unwanted
 
 -- what a mode does with an option
 abbrev pub takes : Mode → OptionName → Take
-takes mode name = take_by (needs mode name) (may_take mode name) (option_line name).1 (option_line name).2
+takes mode name = take_by (needs mode name) (may_take mode name) (form_in mode name) (option_line name).2
 
 -- the name of an option
 abbrev pub word_of : OptionName → List ℕ
@@ -178,6 +192,7 @@ is_number_of (FromOneTo most) word =
     is_number word && nat_le 1 (digits_value 10 word) && nat_le (digits_value 10 word) most
 is_number_of Directory word = false
 is_number_of FormatName word = false
+is_number_of InputFormat word = false
 is_number_of HeaderName word = false
 
 -- the number of this form that a word stands for

@@ -2,7 +2,7 @@
 use Rattle.std.specs.Prelude.{ℕ, ◌≤◌, IfSome, ⊤}
 use Rattle.request_words.specs.Options.{takes}
 use Rattle.request_words.specs.declared.options.Form.{Form}
-use Rattle.request_words.specs.declared.options.Form.TheVariants.{Text, Number, FromOneTo, Directory, FormatName, HeaderName}
+use Rattle.request_words.specs.declared.options.Form.TheVariants.{Text, Number, FromOneTo, Directory, FormatName, InputFormat, HeaderName}
 use Rattle.request_words.specs.declared.options.Take.{Take}
 use Rattle.request_words.specs.declared.options.Take.TheVariants.{Unwanted, Optional, Preset, Needed}
 use Rattle.request_words.specs.declared.usage.OptionName.TheVariants as option
@@ -15,6 +15,7 @@ IsOfForm Number n = ⊤
 IsOfForm (FromOneTo most) n = (1 ≤ n) × (n ≤ most)
 IsOfForm Directory n = ⊤
 IsOfForm FormatName n = ⊤
+IsOfForm InputFormat n = ⊤
 IsOfForm HeaderName n = ⊤
 
 -- a number of the form that a mode wants of an option, where it takes it

@@ -1,14 +1,14 @@
 -- The request that the words of a command line give, or what is wrong with them first.
-use Rattle.std.specs.Prelude.{ℕ, List, [], ◌∷◌, Option, Some, None, Result, Ok, Err, if◌then◌else◌, is_some}
+use Rattle.std.specs.Prelude.{ℕ, Bool, List, [], ◌∷◌, Option, Some, None, Result, Ok, Err, if◌then◌else◌, is_some}
 use Rattle.std.specs.Option.{option_and_then, option_or}
 use Rattle.request_words.specs.Form.{given_in, has_form, mode_in}
-use Rattle.request_words.specs.Options.{Given, format_given, format_named, header_given, header_named, is_number_of, mode_named, order, request_of, takes}
+use Rattle.request_words.specs.Options.{Given, format_given, format_named, header_given, header_named, input_format_named, is_number_of, mode_named, order, request_of, takes}
 use Rattle.request_words.specs.declared.options.Form.{Form}
-use Rattle.request_words.specs.declared.options.Form.TheVariants.{Text, Number, FromOneTo, Directory, FormatName, HeaderName}
+use Rattle.request_words.specs.declared.options.Form.TheVariants.{Text, Number, FromOneTo, Directory, FormatName, InputFormat, HeaderName}
 use Rattle.request_words.specs.declared.options.Take.{Take}
 use Rattle.request_words.specs.declared.options.Take.TheVariants.{Unwanted, Optional, Preset, Needed}
 use Rattle.request_words.specs.declared.usage.Format.{Format}
-use Rattle.request_words.specs.declared.usage.Format.TheVariants.{Copy}
+use Rattle.request_words.specs.declared.usage.Format.TheVariants.{Copy, Sql}
 use Rattle.request_words.specs.declared.usage.Header.{Header}
 use Rattle.request_words.specs.declared.usage.Header.TheVariants.{Names}
 use Rattle.request_words.specs.declared.usage.Mode.{Mode}
@@ -22,6 +22,10 @@ use Rattle.request_words.specs.declared.usage.UsageFault.TheVariants as usage
 abbrev pub number_fault : Form → OptionName → List ℕ → Option UsageFault
 number_fault form name value = if is_number_of form value then None else Some (usage.Number name)
 
+-- what is wrong with the name of a format, by whether there is such a format
+abbrev pub format_fault : Bool → Option UsageFault
+format_fault is = if is then None else Some usage.Format
+
 -- what is wrong with a value: a number is to be one of its form, a directory isn't the empty text, and a format and a header have their names
 abbrev pub value_fault : Form → OptionName → List ℕ → Option UsageFault
 value_fault Text name value = None
@@ -29,7 +33,8 @@ value_fault Number name value = number_fault Number name value
 value_fault (FromOneTo most) name value = number_fault (FromOneTo most) name value
 value_fault Directory name [] = Some (usage.EmptyDirectory name)
 value_fault Directory name (byte ∷ value) = None
-value_fault FormatName name value = if is_some (format_named value) then None else Some usage.Format
+value_fault FormatName name value = format_fault (is_some (format_named value))
+value_fault InputFormat name value = format_fault (is_some (input_format_named value))
 value_fault HeaderName name value = if is_some (header_named value) then None else Some usage.Header
 
 -- what is wrong with what is given for an option, by what the mode does with it
@@ -52,6 +57,7 @@ first_fault mode given (name ∷ names) =
 -- names are wanted of rows that aren't written as CSV
 abbrev pub header_fault : Header → Format → Option UsageFault
 header_fault Names Copy = Some (usage.Unwanted option.Header)
+header_fault Names Sql = Some (usage.Unwanted option.Header)
 header_fault _ _ = None
 
 -- the first fault of all options, and then of the header in its format

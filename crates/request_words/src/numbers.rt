@@ -28,7 +28,8 @@ pub(crate) fn number_in(form: Form, word: &str) -> Option<u64>
     ensures { result ≡ number_in form word.now }
 {
     match form {
-        Form::Text | Form::Directory | Form::FormatName | Form::HeaderName => None,
+        Form::Text | Form::Directory | Form::FormatName | Form::InputFormat | Form::HeaderName =>
+            None,
         Form::Number => read_number(word),
         Form::FromOneTo(most) => read_number(word).filter(|number| 1 <= *number && *number <= most),
     }

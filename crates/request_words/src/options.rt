@@ -1,7 +1,7 @@
 //! The options: how each is written, and which mode takes it.
 
 ghost use Rattle.std.specs.Prelude.{◌≡◌};
-ghost use Rattle.request_words.specs.Options.{format_named, header_named, may_take, mode_named, needs, option_line, takes};
+ghost use Rattle.request_words.specs.Options.{form_in, format_named, header_named, input_form, input_format_named, may_take, mode_named, needs, option_line, takes};
 
 use crate::usage::{Format, Header, Mode, OptionName};
 
@@ -18,6 +18,8 @@ pub(crate) enum Form {
     Directory,
     /// The name of a format.
     FormatName,
+    /// The name of a format in which rows are read, too.
+    InputFormat,
     /// The name of what files in CSV begin with.
     HeaderName,
 }
@@ -81,6 +83,16 @@ pub(crate) fn format_named(word: &str) -> Option<Format>
     ensures { result ≡ format_named word.now }
 {
     match word {
+        "sql" => Some(Format::Sql),
+        _ => input_format_named(word),
+    }
+}
+
+/// Returns the format of a name if rows are read in it, too; None if they aren't, or no format has the name.
+pub(crate) fn input_format_named(word: &str) -> Option<Format>
+    ensures { result ≡ input_format_named word.now }
+{
+    match word {
         "copy" => Some(Format::Copy),
         "csv" => Some(Format::Csv),
         _ => None,
@@ -102,7 +114,8 @@ pub(crate) fn header_named(word: &str) -> Option<Header>
 pub(crate) fn takes(mode: Mode, name: OptionName) -> Take
     ensures { result ≡ takes mode name }
 {
-    let (_, form, preset) = option_line(name);
+    let (_, _, preset) = option_line(name);
+    let form = form_in(mode, name);
     if needs(mode, name) {
         return Take::Needed(form);
     }
@@ -151,6 +164,27 @@ fn option_line(name: OptionName) -> (&'static str, Form, Option<u64>)
         OptionName::Store => ("store", Form::Text, None),
         OptionName::Spec => ("spec", Form::Text, None),
         OptionName::Header => ("header", Form::HeaderName, None),
+    }
+}
+
+/// Returns what an option's value must be in a mode.
+fn form_in(mode: Mode, name: OptionName) -> Form
+    ensures { result ≡ form_in mode name }
+{
+    let (_, form, _) = option_line(name);
+    match mode {
+        Mode::Apply => input_form(form),
+        _ => form,
+    }
+}
+
+/// Returns what a value of this form must be in a mode that reads rows.
+fn input_form(form: Form) -> Form
+    ensures { result ≡ input_form form }
+{
+    match form {
+        Form::FormatName => Form::InputFormat,
+        _ => form,
     }
 }
 

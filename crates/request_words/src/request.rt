@@ -1,16 +1,18 @@
 //! The request that words give, and what is wrong with the words.
 
-ghost use Rattle.std.specs.Prelude.{◌≡◌, map, string_bytes, unwrap_or, IfErr, IfOk, []};
+ghost use Rattle.std.specs.Prelude.{◌≡◌, is_some, map, string_bytes, unwrap_or, IfErr, IfOk, []};
 ghost use Rattle.std.specs.Option.{option_and_then, option_copied};
 ghost use Rattle.request_words.specs.Command.{given_by};
 ghost use Rattle.request_words.specs.Form.{given_in, mode_in};
 ghost use Rattle.request_words.specs.Options.{format_given, header_given, mode_named, number_for, number_or_zero, order, request_of, takes};
-ghost use Rattle.request_words.specs.Words.{fault_of, first_fault, header_fault, option_fault, value_fault};
+ghost use Rattle.request_words.specs.Words.{fault_of, first_fault, format_fault, header_fault, option_fault, value_fault};
 
 use crate::command::given_by;
 use crate::form::{given_in, mode_in};
 use crate::numbers::{number_given, number_in};
-use crate::options::{Form, OPTIONS, Take, format_named, header_named, mode_named, takes};
+use crate::options::{
+    Form, OPTIONS, Take, format_named, header_named, input_format_named, mode_named, takes,
+};
 use crate::usage::{Format, Header, Mode, OptionName, Request, UsageFault};
 use clap::ArgMatches;
 use schema_model::Text;
@@ -40,8 +42,9 @@ pub(crate) fn fault_of(mode: Mode, words: &[String]) -> Option<UsageFault>
 fn header_fault(header: Header, format: Format) -> Option<UsageFault>
     ensures { result ≡ header_fault header format }
 {
+    let unwanted = UsageFault::Unwanted(OptionName::Header);
     match (header, format) {
-        (Header::Names, Format::Copy) => Some(UsageFault::Unwanted(OptionName::Header)),
+        (Header::Names, Format::Copy | Format::Sql) => Some(unwanted),
         _ => None,
     }
 }
@@ -96,14 +99,22 @@ fn value_fault(form: Form, name: OptionName, value: &str) -> Option<UsageFault>
             [] => Some(UsageFault::EmptyDirectory(name)),
             [_, ..] => None,
         },
-        Form::FormatName => match format_named(value) {
-            Some(_) => None,
-            None => Some(UsageFault::Format),
-        },
+        Form::FormatName => format_fault(format_named(value)),
+        Form::InputFormat => format_fault(input_format_named(value)),
         Form::HeaderName => match header_named(value) {
             Some(_) => None,
             None => Some(UsageFault::Header),
         },
+    }
+}
+
+/// Returns what is wrong with a format's name, by the format that it names.
+fn format_fault(named: Option<Format>) -> Option<UsageFault>
+    ensures { result ≡ format_fault (is_some named) }
+{
+    match named {
+        Some(_) => None,
+        None => Some(UsageFault::Format),
     }
 }
 

@@ -77,6 +77,8 @@ pub enum Format {
     Copy,
     /// `csv`: records in CSV.
     Csv,
+    /// `sql`: statements of SQL. They are only written.
+    Sql,
 }
 
 /// What files in CSV begin with.
@@ -177,7 +179,7 @@ pub enum UsageFault {
     Number(OptionName),
     /// The directory's name is empty.
     EmptyDirectory(OptionName),
-    /// The value isn't the name of a format.
+    /// The value isn't the name of a format, or the mode reads rows and no rows are read in that format.
     Format,
     /// The value isn't `none` or `names`.
     Header,

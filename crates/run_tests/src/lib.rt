@@ -33,6 +33,8 @@ mod schemas;
 #[cfg(test)]
 mod simulations;
 #[cfg(test)]
+mod statements;
+#[cfg(test)]
 mod sure;
 #[cfg(test)]
 mod texts;

@@ -7,7 +7,7 @@ use Rattle.plan_stages.specs.Inputs.{inputs_of, total_length}
 use Rattle.refusals.specs.declared.refusal.JobFault.{JobFault}
 use Rattle.refusals.specs.declared.refusal.JobFault.TheVariants as job
 use Rattle.request_words.specs.declared.usage.Format.{Format}
-use Rattle.request_words.specs.declared.usage.Format.TheVariants.{Copy, Csv}
+use Rattle.request_words.specs.declared.usage.Format.TheVariants.{Copy, Csv, Sql}
 use Rattle.request_words.specs.declared.usage.OptionName.TheVariants as option
 use Rattle.request_words.specs.declared.usage.Request.{Request}
 use Rattle.row_lines.specs.Lines.{table_text}
@@ -41,6 +41,7 @@ tables_asked plan request =
 abbrev pub columns_by : Format → Project → List ℕ → Option (List (List (List ℕ)))
 columns_by Copy plan places = None
 columns_by Csv plan places = Some (map (column_names plan.schema) places)
+columns_by Sql plan places = None
 
 -- the streams of the chosen tables are applied, to lines whose key is one field
 abbrev pub apply_of : Project → Request → Option ℕ → Replay

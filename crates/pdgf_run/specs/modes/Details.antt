@@ -8,34 +8,24 @@ use Rattle.request_words.specs.declared.usage.OptionName.TheVariants as option
 use Rattle.request_words.specs.declared.usage.Request.{Request}
 use Rattle.schema_plan.specs.Dictionaries.{Project}
 use Rattle.life_intervals.specs.Generator.{last_unit}
-use Rattle.update_box.specs.Parts.{ending_of, snapshot_contents, unit_contents}
-use Rattle.update_box.specs.UnitLists.{UnitLists}
+use Rattle.update_box.specs.Parts.{ending_of}
 use Rattle.update_box.specs.declared.parts.Content.{Content}
 use Rattle.detail_plan.specs.Rules.{reach_of}
 use Rattle.detail_plan.specs.declared.detail.Detail.{Detail}
 use Rattle.detail_rows.specs.Lines.{detail_deleted_text, detail_inserted_text, detail_text, detail_updated_text}
 use Rattle.pdgf_run.specs.Details.{detail_in}
-use Rattle.pdgf_run.specs.DueFiles.{default_package, most_page_bytes, page_bytes, text_files}
+use Rattle.pdgf_run.specs.DueFiles.{contents_of, default_package, most_page_bytes, page_bytes, text_files}
 use Rattle.pdgf_run.specs.Formats.{made_files, named_files}
 use Rattle.pdgf_run.specs.declared.job.Told.{Told}
 use Rattle.pdgf_run.specs.declared.job.Told.TheVariants.{Text, Changes}
 
 -- ---- what is told
 
--- the contents of the files, and their texts
-abbrev pub contents_of : Told → List Content
-contents_of Text = snapshot_contents
-contents_of Changes = unit_contents
-
+-- the texts of the files
 abbrev pub told_texts : Told → Project → Detail → ℕ → List (List ℕ)
 told_texts Text plan detail unit = detail_text plan detail unit ∷ []
 told_texts Changes plan detail unit =
     detail_deleted_text plan detail unit ∷ detail_updated_text plan detail unit ∷ detail_inserted_text plan detail unit ∷ []
-
--- what is told where the lists of what a unit changes are at hand, or aren't
-abbrev pub told_by : Option UnitLists → Told
-told_by None = Text
-told_by (Some lists) = Changes
 
 -- texts as files of these names, or joined on the standard output where there are no names
 abbrev pub files_by : Option (List (List ℕ)) → List (List ℕ) → List File

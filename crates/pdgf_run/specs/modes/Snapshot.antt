@@ -7,15 +7,15 @@ use Rattle.refusals.specs.declared.refusal.JobFault.{JobFault}
 use Rattle.refusals.specs.declared.refusal.JobFault.TheVariants.{Range}
 use Rattle.request_words.specs.declared.usage.OptionName.TheVariants as option
 use Rattle.request_words.specs.declared.usage.Request.{Request}
-use Rattle.update_box.specs.Parts.{snapshot_contents}
 use Rattle.update_box.specs.declared.parts.Job.{Job}
 use Rattle.pdgf_run.specs.CsvFiles.{IsDueIn}
-use Rattle.pdgf_run.specs.DueFiles.{asked}
+use Rattle.pdgf_run.specs.SqlFiles.{asked_in}
+use Rattle.pdgf_run.specs.declared.job.Told.TheVariants.{Text}
 
 -- what is asked of the tables: a unit past the last one is refused first
 abbrev pub snapshot_asked : Request → Project → Result Job JobFault
-snapshot_asked request plan = if nat_lt (last_unit plan) request.unit then Err (Range option.Unit) else asked plan request
+snapshot_asked request plan = if nat_lt (last_unit plan) request.unit then Err (Range option.Unit) else asked_in request.format plan request
 
 -- what the mode is due
 abbrev pub IsSnapshotDue : Request → Project → Result (List File) JobFault → Type 0
-IsSnapshotDue request plan answer = IsDueIn request.format snapshot_contents request plan (snapshot_asked request plan) answer
+IsSnapshotDue request plan answer = IsDueIn request.format Text request plan (snapshot_asked request plan) answer

@@ -99,7 +99,7 @@ fn apply_of(
     })
 }
 
-/// Returns, for CSV, the names of the columns of each table; None for COPY text form.
+/// Returns, for CSV, the names of the columns of each table; None for other formats.
 fn columns_by(
     alloc: Global,
     format: Format,
@@ -110,7 +110,7 @@ fn columns_by(
     ensures { IfOk result (λ columns. columns ≡ columns_by format plan.now (range_with_len places.from places.count)) }
 {
     let _limits = plan.schema(); // there are 1 to 64 tables
-    if format == Format::Copy {
+    if format != Format::Csv {
         return Ok(None);
     }
     let mut tables = Sequence::new(alloc);

@@ -18,7 +18,7 @@ ghost use Rattle.update_box.specs.TableLists.{HoldLists};
 ghost use Rattle.detail_plan.specs.Rules.{KeepsRules, reach_of};
 ghost use Rattle.detail_rows.specs.Lines.{parent_place};
 ghost use Rattle.detail_rows.specs.Packages.{AreTold, count_of, range_text, rows_in, text_numbered};
-ghost use Rattle.pdgf_run.specs.DueFiles.{default_package, most_page_bytes, page_bytes};
+ghost use Rattle.pdgf_run.specs.DueFiles.{contents_of, default_package, most_page_bytes, page_bytes, told_by};
 ghost use Rattle.pdgf_run.specs.Formats.{in_directory};
 ghost use Rattle.pdgf_run.specs.Joined.{whole_text};
 ghost use Rattle.pdgf_run.specs.Jobs.{due_of, CanFill, CanPackBy, CanPackDetails, IsPackageSize};
@@ -26,7 +26,7 @@ ghost use Rattle.pdgf_run.specs.TopCall.{IsLimitTold, LibraryLeft};
 ghost use Rattle.pdgf_run.specs.Verdict.{IsDecided};
 ghost use Rattle.pdgf_run.specs.declared.job.Told.TheVariants as Told;
 ghost use Rattle.pdgf_run.specs.Replay.{input_limit};
-ghost use Rattle.pdgf_run.specs.modes.Details.{contents_of, detail_name, detail_package, details_asked, details_due, details_of, files_by, is_refused, told_by, told_texts};
+ghost use Rattle.pdgf_run.specs.modes.Details.{detail_name, detail_package, details_asked, details_due, details_of, files_by, is_refused, told_texts};
 
 use crate::asked::{MOST_PAGE_BYTES, PAGES, default_package, is_past_last};
 use crate::details::read_details;

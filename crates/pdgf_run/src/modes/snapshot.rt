@@ -9,17 +9,21 @@ ghost use Rattle.update_box.specs.Parts.{snapshot_contents};
 ghost use Rattle.schema_plan.specs.Layout.{layout_of};
 ghost use Rattle.schema_plan.specs.TableFacts.{reach};
 ghost use Rattle.update_box.specs.Packages.{IsJobOf};
+ghost use Rattle.sql_lines.specs.Reach.{statement_reach};
 ghost use Rattle.pdgf_run.specs.CsvFiles.{IsCsvOfJob};
 ghost use Rattle.pdgf_run.specs.DueFiles.{most_page_bytes, page_bytes, table_files};
-ghost use Rattle.pdgf_run.specs.Jobs.{due_of, CanAsk, CanFill, CanPack};
+ghost use Rattle.pdgf_run.specs.Jobs.{due_of, CanAsk, CanFill, CanPack, CanState};
+ghost use Rattle.pdgf_run.specs.SqlFiles.{statement_files};
 ghost use Rattle.pdgf_run.specs.Verdict.{IsDecided};
+ghost use Rattle.pdgf_run.specs.declared.job.Told.TheVariants as Told;
 ghost use Rattle.pdgf_run.specs.modes.Snapshot.{IsSnapshotDue, snapshot_asked};
 
-use crate::asked::{asked, is_past_last};
+use crate::asked::{asked_in, is_past_last};
 use crate::csv::csv_job;
 use crate::fill::name_of;
-use crate::job::{Job, TablesJob, copied, tables_job};
+use crate::job::{Job, ScriptJob, TablesJob, copied, tables_job};
 use crate::text_shelf::TextShelf;
+use out_of_memory::Memory;
 use pd_outside::{Gate, Shelf};
 use range_workers::{RunFault, run};
 use refusals::JobFault;
@@ -31,7 +35,7 @@ use std::thread::Threads;
 use update_box::{Content, SnapshotPacker};
 
 /// The contents of a snapshot's files, for each table.
-const CONTENTS: [Content; 1] = [Content::Snapshot];
+pub(crate) const CONTENTS: [Content; 1] = [Content::Snapshot];
 
 /// Returns the job of a snapshot of a plan's tables. In CSV its texts are made here.
 pub(crate) fn plan_snapshot<R: Threads + Sync, G: Gate + Sync>(
@@ -50,13 +54,17 @@ pub(crate) fn plan_snapshot<R: Threads + Sync, G: Gate + Sync>(
     if is_past_last(&plan, request.unit) {
         return Err(JobFault::Range(OptionName::Unit));
     }
-    let asked = match asked(&plan, request) {
+    let asked = match asked_in(&plan, request) {
         Ok(asked) => asked,
         Err(fault) => return Err(fault),
     };
     match request.format {
         Format::Copy => copied_snapshot(alloc, plan, asked, request),
         Format::Csv => csv_snapshot(rt, alloc, gate, plan, asked, request),
+        Format::Sql => match stated_snapshot(alloc, plan, asked, request) {
+            Ok(job) => Ok(Job::Script(job)),
+            Err(Memory) => Err(JobFault::Memory),
+        },
     }
 }
 
@@ -106,6 +114,24 @@ fn csv_snapshot<R: Threads + Sync, G: Gate + Sync>(
     let mut shelf = TextShelf::new(alloc);
     let written = write_snapshot(rt, alloc, &job, &mut shelf, gate);
     csv_job(alloc, &job, CONTENTS.as_slice(), written, &shelf, request)
+}
+
+/// Returns the job of a snapshot as statements of SQL.
+fn stated_snapshot(
+    alloc: Global,
+    plan: Plan,
+    asked: update_box::Job,
+    request: &Request,
+) -> Result<ScriptJob, Memory>
+    requires asked { IsJobOf plan asked }
+    requires ranges { CanAsk request.now }
+    requires pages { page_bytes request.now.workers asked.package (statement_reach (layout_of plan)) ≤ most_page_bytes }
+    ensures job { IfOk result (λ job. due_of (Job.Script job) ≡ statement_files Told.Text plan request.now.out asked) }
+    ensures can { IfOk result CanState }
+{
+    let out = copied(alloc, &request.out)?;
+    let of = tables_job(alloc, plan, asked, request, out)?;
+    Ok(ScriptJob { of, changes: None })
 }
 
 /// Writes the files of a snapshot, by the job's workers. All memory is taken before the first file is begun.

@@ -10,16 +10,19 @@ ghost use Rattle.update_box.specs.TableLists.{HoldLists};
 ghost use Rattle.schema_plan.specs.Layout.{layout_of};
 ghost use Rattle.schema_plan.specs.TableFacts.{reach};
 ghost use Rattle.update_box.specs.Packages.{IsJobOf};
+ghost use Rattle.sql_lines.specs.Reach.{statement_reach};
 ghost use Rattle.pdgf_run.specs.CsvFiles.{IsCsvOfJob};
 ghost use Rattle.pdgf_run.specs.DueFiles.{most_page_bytes, page_bytes, table_files};
-ghost use Rattle.pdgf_run.specs.Jobs.{due_of, CanAsk, CanFill, CanPack, CanPackBy, CanPackUnit};
+ghost use Rattle.pdgf_run.specs.Jobs.{due_of, CanAsk, CanFill, CanPack, CanPackBy, CanPackUnit, CanState};
+ghost use Rattle.pdgf_run.specs.SqlFiles.{statement_files};
 ghost use Rattle.pdgf_run.specs.Verdict.{IsDecided};
+ghost use Rattle.pdgf_run.specs.declared.job.Told.TheVariants as Told;
 ghost use Rattle.pdgf_run.specs.modes.Unit.{IsUnitDue, unit_asked};
 
-use crate::asked::{asked, is_past_last};
+use crate::asked::{asked_in, is_past_last};
 use crate::csv::csv_job;
 use crate::fill::name_of;
-use crate::job::{Job, TablesJob, UnitJob, copied, tables_job};
+use crate::job::{Job, ScriptJob, TablesJob, UnitJob, copied, tables_job};
 use crate::text_shelf::TextShelf;
 use out_of_memory::Memory;
 use pd_outside::{Gate, Shelf};
@@ -35,7 +38,7 @@ use step_count::Steps;
 use update_box::{Content, ListPacker, UnitRows, rows_of_unit};
 
 /// The contents of a unit's files, for each table.
-const CONTENTS: [Content; 3] = [Content::Deleted, Content::Updated, Content::Inserted];
+pub(crate) const CONTENTS: [Content; 3] = [Content::Deleted, Content::Updated, Content::Inserted];
 
 /// Returns the job of what a unit changes in a plan's tables. In CSV its texts are made here.
 pub(crate) fn plan_unit<B: Ledger, R: Threads + Sync, G: Gate + Sync>(
@@ -58,13 +61,17 @@ pub(crate) fn plan_unit<B: Ledger, R: Threads + Sync, G: Gate + Sync>(
     if request.unit == 0 || is_past_last(&plan, request.unit) {
         return Err(JobFault::Range(OptionName::Unit));
     }
-    let asked = match asked(&plan, request) {
+    let asked = match asked_in(&plan, request) {
         Ok(asked) => asked,
         Err(fault) => return Err(fault),
     };
     match request.format {
         Format::Copy => copied_unit::<B>(alloc, plan, asked, request, blank),
         Format::Csv => csv_unit::<B, R, G>(rt, alloc, gate, plan, asked, request, blank),
+        Format::Sql => match stated_unit::<B>(alloc, plan, asked, request, blank) {
+            Ok(job) => Ok(Job::Script(job)),
+            Err(Memory) => Err(JobFault::Memory),
+        },
     }
 }
 
@@ -131,6 +138,29 @@ fn csv_unit<B: Ledger, R: Threads + Sync, G: Gate + Sync>(
         &shelf,
         request,
     )
+}
+
+/// Returns the job of what a unit changes, as statements of SQL.
+fn stated_unit<B: Ledger>(
+    alloc: Global,
+    plan: Plan,
+    asked: update_box::Job,
+    request: &Request,
+    blank: Blank,
+) -> Result<ScriptJob, Memory>
+    requires name { blank.name ≡ B.name }
+    requires parts { blank.parts ≡ B.parts }
+    requires some { 0 < blank.parts }
+    requires asked { IsJobOf plan asked }
+    requires later { 1 ≤ asked.unit }
+    requires ranges { CanAsk request.now }
+    requires pages { page_bytes request.now.workers asked.package (statement_reach (layout_of plan)) ≤ most_page_bytes }
+    ensures job { IfOk result (λ job. due_of (Job.Script job) ≡ statement_files Told.Changes plan request.now.out asked) }
+    ensures can { IfOk result CanState }
+{
+    let out = copied(alloc, &request.out)?;
+    let job = found_job::<B>(alloc, plan, asked, request, out, blank)?;
+    Ok(job.into_script())
 }
 
 /// Returns the job of what a unit changes. The files go to a directory, or to the standard output if `out` is None. Fails with

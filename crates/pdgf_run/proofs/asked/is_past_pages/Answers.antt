@@ -6,6 +6,6 @@ pub overflow_mul-result-3 : goal.overflow_mul-result-3
 overflow_mul-result-3 c =
     let lines : 8 * c.from.result * c.args.lines ≤ 512 * 1000000 =
     mul-le (8 * c.from.result) c.args.lines 512 1000000 (omega (arith, c.from.ensures, c.requires.worker_limit)) c.requires.line_limit in
-    let all : 8 * c.from.result * c.args.lines * c.args.bytes ≤ 512 * 1000000 * 131072 =
-    mul-le (8 * c.from.result * c.args.lines) c.args.bytes (512 * 1000000) 131072 lines c.requires.byte_limit in
+    let all : 8 * c.from.result * c.args.lines * c.args.bytes ≤ 512 * 1000000 * 262144 =
+    mul-le (8 * c.from.result * c.args.lines) c.args.bytes (512 * 1000000) 262144 lines c.requires.byte_limit in
     omega (arith, all)
