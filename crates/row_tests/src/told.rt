@@ -2,11 +2,12 @@
 
 ghost use Rattle.std.specs.Prelude.{◌≡◌, ◌<◌};
 
+use crate::child_tests::dealt_as_told;
 use crate::fixtures::{assert_case, plan_of};
 use crate::life_tests::{has_cohorts_as_told, has_keys_as_told, lives_as_told};
 use crate::line_tests::has_lines_as_told;
 use crate::update_tests::changes_as_told;
-use life_intervals::Survival;
+use life_intervals::{Block, Survival};
 use schema_plan::Plan;
 use std::alloc::Global;
 use std::process::Abort;
@@ -45,6 +46,9 @@ pub(crate) enum Told<'a> {
     Change(u64, u64),
     /// The row's parent by the column after the key.
     Parent(u64),
+    /// A unit, the number with which the row is dealt to the unit's cohort of the table, by the column after the key, and the places of
+    /// the cohort at which it is chosen first.
+    Dealt(u64, u64, Option<Block>),
     /// The table has no life and no update.
     Still,
     /// What lives say of the rows that are born at the unit, at each unit from it on.
@@ -91,6 +95,7 @@ fn is_as_told<L: Ledger>(
             has_cohorts_as_told(alloc, plan, table, number, told, steps)
         }
         Told::Changes(..) => changes_as_told(alloc, plan, table, number, told, steps),
+        Told::Dealt(..) => dealt_as_told(plan, table, number, told, steps),
         _ => has_lines_as_told(alloc, plan, table, number, told, steps),
     }
 }
