@@ -13,6 +13,8 @@ class Database:
     A session has `begin`, `commit`, `execute(sql)`, `copy(target, columns, path)`, which appends the lines of a file to a table, `make_given(table,
     columns)`, an empty table `Given` with the types of a table's columns, `drop_given`, `expect(number, query, message)`, which gives up
     where a query answers another number, `answer(query)`, the answer's lines as lists of fields, and `finish`, by which all is carried out.
+
+    `carry_out(path)` runs a script of the program, each statement by itself.
     """
 
     dialect = None

@@ -10,6 +10,8 @@ from . import tables
 from .database import GIVEN, Database, Script, as_text
 from .server import Failed, Owner, program
 
+# With these the client takes a script of the program as it is: with names between double quotes, backslashes that are no escapes, and CR LF.
+AS_IT_IS = ["--binary-mode", "--init-command=SET sql_mode = 'ANSI_QUOTES,NO_BACKSLASH_ESCAPES,STRICT_ALL_TABLES'"]
 VARIABLES = ("MYSQL_HOST", "MYSQL_TCP_PORT", "MYSQL_UNIX_PORT")
 ESCAPE = re.compile(rb"\\(.)", re.S)
 LETTERS = {b"v": b"\v", b"f": b"\f"}  # which LOAD DATA takes for the letters
@@ -126,9 +128,15 @@ class Mariadb(Database):
         path = f"{self.room}/script.sql"
         with open(path, "w", encoding="utf-8") as file:
             file.write(script)
+        return self.run_file(path)
+
+    def carry_out(self, path):
+        self.run_file(path, AS_IT_IS)
+
+    def run_file(self, path, options=()):
         with open(path, "rb") as file:
             how = {"stdin": file, "stdout": subprocess.PIPE, "stderr": subprocess.PIPE, "env": self.environment, "errors": "replace"}
-            ran = subprocess.run(self.client, **how)
+            ran = subprocess.run([*self.client, *options], **how)
         if ran.returncode != 0:
             # The client shows the statement too.
             told = [it for it in ran.stderr.splitlines() if it.startswith("ERROR")]

@@ -109,10 +109,17 @@ class Postgres(Database):
     def run(self, script):
         with open(self.script, "w", encoding="utf-8") as file:
             file.write(script)
-        ran = command(self.script, self.environment)
+        return self.run_file(self.script, self.environment)
+
+    @staticmethod
+    def run_file(path, environment):
+        ran = command(path, environment)
         if ran.returncode != 0:
-            raise Failed(ran.stderr.strip().removeprefix(f"psql:{self.script}:"))
+            raise Failed(ran.stderr.strip().removeprefix(f"psql:{path}:"))
         return [it.split("\t") for it in ran.stdout.splitlines()]
+
+    def carry_out(self, path):
+        self.run_file(path, {**self.environment, "PGCLIENTENCODING": "UTF8"})
 
     def make_tables(self, sql):
         self.run(f"SET client_encoding = 'UTF8';\nBEGIN;\n{sql}\nCOMMIT;\n")

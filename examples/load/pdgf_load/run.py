@@ -13,6 +13,7 @@ from .tables import tables_as_sql
 from .text import lines
 
 USAGE = """usage: examples/load/{name} [--from T] [--last] [--details FILE].. [--streams DIR] [--tables FILE] FOLDER|SCHEMA [COMMAND ..]
+       examples/load/{name} [--from T] [--last] --scripts DIR [--tables FILE] FOLDER|SCHEMA [COMMAND ..]
 
 Loads the tables of a schema into {title} as they stand at unit 0, or at T, does to them what each later unit does, each
 as a transaction and with the foreign keys on, and compares them with the snapshot of each unit.
@@ -22,6 +23,9 @@ path. Detail tables are those that the files of --details declare, else those of
 are made by the file of --tables, else by FOLDER/{tables}, else they are those of examples/load/ddl. With --last they are
 compared after the last unit alone. With --streams the texts that are loaded lie in DIR, written before by the modes snapshot and
 details (unit 0, or T), unit and details-unit. COMMAND runs at the end, if all is equal, with the database in its environment.
+
+With --scripts a script is run for each unit in place of all this, each statement by itself: DIR/0.sql, or DIR/T.sql, is written before by
+`pdgf snapshot --format sql`, and the later ones by `pdgf unit --format sql`. Detail tables have none, and aren't made.
 
 {server}
 
@@ -40,6 +44,7 @@ class Request:
         self.last = False
         self.details = []
         self.streams = None
+        self.scripts = None
         self.tables = None
         words = list(words)
         while words and words[0].startswith("-"):
@@ -52,11 +57,13 @@ class Request:
                     self.details.append(os.path.abspath(words.pop(0)))
                 case "--streams" if words and os.path.isdir(words[0]):
                     self.streams = os.path.abspath(words.pop(0))
+                case "--scripts" if words and os.path.isdir(words[0]):
+                    self.scripts = os.path.abspath(words.pop(0))
                 case "--tables" if words and os.path.isfile(words[0]):
                     self.tables = os.path.abspath(words.pop(0))
                 case _:
                     raise Words
-        if not words:
+        if not words or self.scripts and (self.streams or self.details):
             raise Words
         self.path, *self.command = words
 
@@ -64,7 +71,7 @@ class Request:
         return schema_path(self.path)
 
     def detail_paths(self):
-        return self.details or details_in(self.path)
+        return [] if self.scripts else self.details or details_in(self.path)
 
 
 def in_folder(path):
@@ -178,9 +185,12 @@ def replay(request, program, database, folder):
         raise Failed(f"there is no unit {first}")
     for unit in range(first, database.schema.units + 1):
         mode = "unit" if unit > first else "snapshot"
-        texts = request.streams or program.texts(mode, unit, f"{folder}/texts")
         try:
-            database.play(unit, texts, lines, is_base=unit == first)
+            if request.scripts:
+                database.carry_out(f"{request.scripts}/{unit}.sql")
+            else:
+                texts = request.streams or program.texts(mode, unit, f"{folder}/texts")
+                database.play(unit, texts, lines, is_base=unit == first)
         except Failed as error:
             raise Failed(f"unit {unit}: {error}") from None
         if unit == first:

@@ -99,6 +99,14 @@ class Sqlite(Database):
         except sqlite3.Error as error:
             raise Failed(str(error)) from None
 
+    def carry_out(self, path):
+        with open(path, encoding="utf-8", newline="") as file:
+            script = file.read()
+        try:
+            self.connection.executescript(script)
+        except (sqlite3.Error, ValueError) as error:
+            raise Failed(f"{os.path.basename(path)}: {error}") from None
+
     def settle(self):
         self.connection.execute("ANALYZE")
 
