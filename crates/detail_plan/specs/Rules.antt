@@ -3,7 +3,7 @@ use Rattle.std.specs.Prelude.{◌≡◌, ℕ, suc, pos, ◌+◌, ◌*◌, List, 
 use Rattle.std.specs.List.{list_all, range_with_len}
 use Rattle.schema_plan.specs.Counts.{count}
 use Rattle.schema_plan.specs.Dictionaries.{Project}
-use Rattle.schema_plan.specs.FieldBounds.{greatest_by, written_size}
+use Rattle.schema_plan.specs.FieldSizes.{greatest_by, written_size}
 use Rattle.schema_plan.specs.Layout.{layout_of}
 use Rattle.schema_plan.specs.Names.{is_name}
 use Rattle.schema_plan.specs.Planned.{table_named}

@@ -3,7 +3,7 @@
 ghost use Rattle.std.specs.Prelude.{◌≡◌, ◌<◌, length, sum_by};
 ghost use Rattle.std.specs.List.{list_all, list_any};
 ghost use Rattle.schema_plan.specs.Capped.{capped};
-ghost use Rattle.schema_plan.specs.FieldBounds.{greatest_by, written_size};
+ghost use Rattle.schema_plan.specs.FieldSizes.{greatest_by, written_size};
 ghost use Rattle.schema_plan.specs.Names.{same_text};
 ghost use Rattle.schema_plan.specs.Rules.{is_new_at};
 ghost use Rattle.detail_plan.specs.Rules.{are_new_names, column_size, first_broken, has_columns, has_line_counts, has_new_name, has_parent, has_short_lines, is_kind, kind_size, names_of, reach_by};

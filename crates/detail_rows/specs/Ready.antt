@@ -5,7 +5,7 @@ use Rattle.std.specs.List.{range_with_len}
 use Rattle.philox_seeds.specs.SeedTree.{draw, row_seed}
 use Rattle.row_text.specs.Fields.{escaped_text}
 use Rattle.schema_plan.specs.Counts.{count}
-use Rattle.schema_plan.specs.FieldBounds.{greatest_by}
+use Rattle.schema_plan.specs.FieldSizes.{greatest_by}
 use Rattle.schema_plan.specs.Limits.{IsRange}
 use Rattle.detail_plan.specs.declared.detail.Detail.{Detail}
 use Rattle.detail_plan.specs.declared.detail.DetailColumn.{DetailColumn}

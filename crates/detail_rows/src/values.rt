@@ -4,7 +4,7 @@ ghost use Rattle.std.specs.Prelude.{◌≡◌, ◌≤◌, ◌+◌, ◌%◌, ◌+
 ghost use Rattle.std.specs.Fmt.{signed_decimal};
 ghost use Rattle.row_text.specs.Fields.{escaped_text};
 ghost use Rattle.schema_plan.specs.Counts.{count};
-ghost use Rattle.schema_plan.specs.FieldBounds.{greatest_by};
+ghost use Rattle.schema_plan.specs.FieldSizes.{greatest_by};
 ghost use Rattle.schema_plan.specs.Limits.{IsRange};
 ghost use Rattle.detail_plan.specs.Limits.{IsKindInLimits};
 ghost use Rattle.detail_rows.specs.Ready.{AreChoices, IsNumber, IsReadyValue, fields_size, ready_fields, ready_size, ready_text, ready_value};

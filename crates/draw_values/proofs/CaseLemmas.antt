@@ -13,8 +13,8 @@ use Rattle.schema_plan.specs.declared.ready.ReadyKind.TheVariants as kind
 use Rattle.schema_plan.specs.declared.ready.ReadyLeaf.{ReadyLeaf}
 use Rattle.schema_plan.specs.declared.ready.ReadyLeaf.TheVariants as leaf
 use Rattle.schema_plan.specs.Dictionaries.{Project}
-use Rattle.schema_plan.specs.FieldBounds.{greatest_by}
-use Rattle.schema_plan.specs.Layout.{KindLayout, key_kind, born_kind, changed_kind, leaf_kind, template_kind, case_kind, reference_kind, lookup_kind, list_kind, unit_date_kind, column_at, layout_of, table_at}
+use Rattle.schema_plan.specs.FieldSizes.{greatest_by}
+use Rattle.schema_plan.specs.Layout.{KindLayout, key_kind, born_kind, changed_kind, leaf_kind, template_kind, case_kind, reference_kind, lookup_kind, list_kind, unit_date_kind, after_kind, sum_kind, product_kind, column_at, layout_of, table_at}
 use Rattle.schema_plan.specs.Limits.{IsTableInLimits}
 use Rattle.schema_plan.specs.Ready.{ready_columns, ready_kind}
 use Rattle.draw_values.specs.declared.runs.RunRows.{RunRows}
@@ -39,6 +39,9 @@ case_own delimiter (reference_kind parent window spread nulls drawn) case = case
 case_own delimiter (lookup_kind via parent name) case = case
 case_own delimiter (list_kind words) case = refl
 case_own delimiter (unit_date_kind changed start step) case = refl
+case_own delimiter (after_kind of lo hi) case = case
+case_own delimiter (sum_kind of) case = case
+case_own delimiter (product_kind of) case = case
 
 -- the column that is kept for cases, and the one that they go by
 pub kept_case : (plan : Project) (run : RunColumnOf) (kept : List ReadyColumn) (own pick : ReadyColumn) (on units : ℕ) (branches : List ReadyLeaf) → IsRunColumn plan run →
@@ -70,6 +73,9 @@ entry_some (kind.Reference reference) draws pick = absurd pick
 entry_some (kind.Lookup lookup) draws pick = absurd pick
 entry_some (kind.List list) draws pick = absurd pick
 entry_some (kind.UnitDate date) draws pick = absurd pick
+entry_some (kind.After after) draws pick = absurd pick
+entry_some (kind.Sum of) draws pick = absurd pick
+entry_some (kind.Product of) draws pick = absurd pick
 
 decided : (b : Bool) → (b ≡ false → ⊥) → b ≡ true
 decided true not_false = refl

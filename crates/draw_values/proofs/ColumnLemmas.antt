@@ -9,16 +9,16 @@ use Rattle.weight_tables.proofs.SelectionLemmas.{Selects-selected}
 use Rattle.row_text.specs.Fields.{escaped_text}
 use Rattle.schema_plan.specs.declared.ready.ReadyColumn.{ReadyColumn}
 use Rattle.schema_plan.specs.declared.ready.ReadyLeaf.{ReadyLeaf}
-use Rattle.schema_plan.specs.FieldBounds.{bounds_of, leaf_size}
-use Rattle.schema_plan.specs.Layout.{LeafLayout, int_leaf, fixed_leaf, date_leaf, pick_leaf, skew_leaf, dict_leaf, words_leaf, chars_leaf, uuid_leaf, KindLayout, key_kind, born_kind, changed_kind, leaf_kind, template_kind, case_kind, reference_kind, lookup_kind, ColumnLayout, Layout, TableLayout, column_at, no_column, table_at, list_kind, unit_date_kind}
+use Rattle.schema_plan.specs.FieldSizes.{leaf_size, size_of}
+use Rattle.schema_plan.specs.Layout.{LeafLayout, int_leaf, fixed_leaf, date_leaf, pick_leaf, skew_leaf, dict_leaf, words_leaf, chars_leaf, uuid_leaf, KindLayout, key_kind, born_kind, changed_kind, leaf_kind, template_kind, case_kind, reference_kind, lookup_kind, ColumnLayout, Layout, TableLayout, column_at, no_column, table_at, list_kind, unit_date_kind, after_kind, sum_kind, product_kind}
 use Rattle.schema_plan.specs.Limits.{IsCase, IsKindInLimits, IsLeafInLimits, IsPickOf}
 use Rattle.schema_plan.specs.Ready.{ready_column, ready_columns, ready_kind, ready_leaf}
 use Rattle.draw_values.specs.declared.values.RowAt.{RowAt}
 use Rattle.draw_values.specs.Dates.{date_text}
-use Rattle.draw_values.specs.ReadyValues.{IsReady, IsReadyKind, chooser_of, ready_branch, ready_entry, ready_field, ready_held_entry, ready_kind_size, ready_size, ready_text, ready_value}
-use Rattle.draw_values.specs.Values.{Draws, RowDraws, branch_at, chosen_group, entry_of, held_entry, is_null, is_own, leaf_value, own_field, own_value, unit_day, unless_null}
+use Rattle.draw_values.specs.ReadyValues.{IsReady, IsReadyKind, chooser_of, ready_branch, ready_entry, ready_field, ready_held_entry, ready_kind_size, ready_own_day, ready_own_number, ready_size, ready_text, ready_value}
+use Rattle.draw_values.specs.Values.{Draws, RowDraws, branch_at, chosen_group, entry_of, held_entry, is_null, is_own, leaf_value, own_day, own_field, own_number, own_value, unit_day, unless_null}
 use Rattle.draw_values.proofs.PlainLemmas.{escaped_text-plain, plain-date_text, plain-decimal}
-use Rattle.draw_values.proofs.ReadyLemmas.{entry-written, leaf_is_ready, leaf_size-ready, leaf_value-written, list_is_ready}
+use Rattle.draw_values.proofs.ReadyLemmas.{entry-written, leaf_day-ready, leaf_is_ready, leaf_number-ready, leaf_size-ready, leaf_value-written, list_is_ready}
 
 pub length-ready_columns : (layout : Layout) (table : ℕ) → length (ready_columns layout table) ≡ length (table_at layout.tables table).columns
 length-ready_columns layout table = length-map (table_at layout.tables table).columns (ready_column layout.delimiter)
@@ -80,6 +80,9 @@ entry_of-ready delimiter (reference_kind parent window spread nulls drawn) draw 
 entry_of-ready delimiter (lookup_kind via parent name) draw = refl
 entry_of-ready delimiter (list_kind words) draw = refl
 entry_of-ready delimiter (unit_date_kind changed start step) draw = refl
+entry_of-ready delimiter (after_kind of lo hi) draw = refl
+entry_of-ready delimiter (sum_kind of) draw = refl
+entry_of-ready delimiter (product_kind of) draw = refl
 
 -- what is known of the kind of a pick column of so many entries
 pick_elim : (P : KindLayout → Type 0) (columns : List ColumnLayout) (place count : ℕ) (kind : KindLayout) → IsPickOf count kind → IsKindInLimits columns place kind →
@@ -98,6 +101,38 @@ entry_within null count draw entries weights many some =
       | true ↦ tt
       | false ↦ omega (arith, chosen, many)
     ]
+
+-- ---- days and numbers
+
+pub own_day-ready : (delimiter : ℕ) (at : RowAt) (draw : Draws) (kind : KindLayout) → ready_own_day at draw (ready_kind delimiter kind) ≡ own_day at draw kind
+own_day-ready delimiter at draw key_kind = refl
+own_day-ready delimiter at draw born_kind = refl
+own_day-ready delimiter at draw changed_kind = refl
+own_day-ready delimiter at draw (leaf_kind leaf) = leaf_day-ready delimiter leaf draw
+own_day-ready delimiter at draw (template_kind parts) = refl
+own_day-ready delimiter at draw (case_kind on branches) = refl
+own_day-ready delimiter at draw (reference_kind parent window spread nulls drawn) = refl
+own_day-ready delimiter at draw (lookup_kind via parent name) = refl
+own_day-ready delimiter at draw (list_kind words) = refl
+own_day-ready delimiter at draw (unit_date_kind changed start step) = refl
+own_day-ready delimiter at draw (after_kind of lo hi) = refl
+own_day-ready delimiter at draw (sum_kind of) = refl
+own_day-ready delimiter at draw (product_kind of) = refl
+
+pub own_number-ready : (delimiter : ℕ) (draw : Draws) (kind : KindLayout) → ready_own_number draw (ready_kind delimiter kind) ≡ own_number draw kind
+own_number-ready delimiter draw key_kind = refl
+own_number-ready delimiter draw born_kind = refl
+own_number-ready delimiter draw changed_kind = refl
+own_number-ready delimiter draw (leaf_kind leaf) = leaf_number-ready delimiter leaf draw
+own_number-ready delimiter draw (template_kind parts) = refl
+own_number-ready delimiter draw (case_kind on branches) = refl
+own_number-ready delimiter draw (reference_kind parent window spread nulls drawn) = refl
+own_number-ready delimiter draw (lookup_kind via parent name) = refl
+own_number-ready delimiter draw (list_kind words) = refl
+own_number-ready delimiter draw (unit_date_kind changed start step) = refl
+own_number-ready delimiter draw (after_kind of lo hi) = refl
+own_number-ready delimiter draw (sum_kind of) = refl
+own_number-ready delimiter draw (product_kind of) = refl
 
 -- ---- columns of units and of drawn values
 
@@ -122,6 +157,9 @@ chooser_of-within delimiter columns place (reference_kind parent window spread n
 chooser_of-within delimiter columns place (lookup_kind via parent name) of within = absurd (let own = of.own in cc)
 chooser_of-within delimiter columns place (list_kind words) of within = within
 chooser_of-within delimiter columns place (unit_date_kind changed start step) of within = within
+chooser_of-within delimiter columns place (after_kind earlier lo hi) of within = absurd (let own = of.own in cc)
+chooser_of-within delimiter columns place (sum_kind operands) of within = absurd (let own = of.own in cc)
+chooser_of-within delimiter columns place (product_kind operands) of within = absurd (let own = of.own in cc)
 
 -- what is kept of it can be written
 case_is_ready : (delimiter on : ℕ) (branches : List LeafLayout) (columns : List ColumnLayout) (place : ℕ) → IsCase columns place on branches → IsKindInLimits columns on (column_at columns on).kind →
@@ -149,20 +187,26 @@ kind_is_ready delimiter columns place (reference_kind parent window spread nulls
 kind_is_ready delimiter columns place (lookup_kind via parent name) of all within = absurd (let own = of.own in cc)
 kind_is_ready delimiter columns place (list_kind words) of all within = list_is_ready delimiter words
 kind_is_ready delimiter columns place (unit_date_kind changed start step) of all within = tt
+kind_is_ready delimiter columns place (after_kind earlier lo hi) of all within = absurd (let own = of.own in cc)
+kind_is_ready delimiter columns place (sum_kind operands) of all within = absurd (let own = of.own in cc)
+kind_is_ready delimiter columns place (product_kind operands) of all within = absurd (let own = of.own in cc)
 
 -- its greatest size
-pub bounds_of-ready : (delimiter : ℕ) (tables : List TableLayout) (table : TableLayout) (columns : List ColumnLayout) (place : ℕ) (kind : KindLayout) → IsOwn delimiter columns place kind →
-    (bounds_of delimiter tables table kind).size ≡ max 2 (ready_kind_size (ready_kind delimiter kind))
-bounds_of-ready delimiter tables table columns place key_kind of = absurd (let own = of.own in cc)
-bounds_of-ready delimiter tables table columns place born_kind of = refl
-bounds_of-ready delimiter tables table columns place changed_kind of = refl
-bounds_of-ready delimiter tables table columns place (leaf_kind leaf) of = ap (max 2) (leaf_size-ready delimiter leaf of.limits)
-bounds_of-ready delimiter tables table columns place (template_kind parts) of = absurd (let own = of.own in cc)
-bounds_of-ready delimiter tables table columns place (case_kind on branches) of = ap (max 2) (greatest_from delimiter 0 branches of.limits.each)
-bounds_of-ready delimiter tables table columns place (reference_kind parent window spread nulls drawn) of = absurd (let own = of.own in cc)
-bounds_of-ready delimiter tables table columns place (lookup_kind via parent name) of = absurd (let own = of.own in cc)
-bounds_of-ready delimiter tables table columns place (list_kind words) of = ap (max 2) (leaf_size-ready delimiter (dict_leaf words) of.limits)
-bounds_of-ready delimiter tables table columns place (unit_date_kind changed start step) of = refl
+pub size_of-ready : (delimiter : ℕ) (tables : List TableLayout) (columns : List ColumnLayout) (place : ℕ) (kind : KindLayout) → IsOwn delimiter columns place kind →
+    size_of delimiter tables columns kind ≡ max 2 (ready_kind_size (ready_kind delimiter kind))
+size_of-ready delimiter tables columns place key_kind of = absurd (let own = of.own in cc)
+size_of-ready delimiter tables columns place born_kind of = refl
+size_of-ready delimiter tables columns place changed_kind of = refl
+size_of-ready delimiter tables columns place (leaf_kind leaf) of = ap (max 2) (leaf_size-ready delimiter leaf of.limits)
+size_of-ready delimiter tables columns place (template_kind parts) of = absurd (let own = of.own in cc)
+size_of-ready delimiter tables columns place (case_kind on branches) of = ap (max 2) (greatest_from delimiter 0 branches of.limits.each)
+size_of-ready delimiter tables columns place (reference_kind parent window spread nulls drawn) of = absurd (let own = of.own in cc)
+size_of-ready delimiter tables columns place (lookup_kind via parent name) of = absurd (let own = of.own in cc)
+size_of-ready delimiter tables columns place (list_kind words) of = ap (max 2) (leaf_size-ready delimiter (dict_leaf words) of.limits)
+size_of-ready delimiter tables columns place (unit_date_kind changed start step) of = refl
+size_of-ready delimiter tables columns place (after_kind earlier lo hi) of = absurd (let own = of.own in cc)
+size_of-ready delimiter tables columns place (sum_kind operands) of = absurd (let own = of.own in cc)
+size_of-ready delimiter tables columns place (product_kind operands) of = absurd (let own = of.own in cc)
 
 -- and what a row holds in it
 held_entry-ready : (delimiter : ℕ) (column : ColumnLayout) (draw : Draws) → held_entry column draw ≡ ready_held_entry (ready_column delimiter column) draw
@@ -199,6 +243,9 @@ own_value-written delimiter columns at draws place (list_kind words) of all with
 own_value-written delimiter columns at draws place (unit_date_kind changed start step) of all within =
     let day : ℤ = unit_day changed start step at in
     ap Some (escaped_text-plain delimiter (date_text day) (plain-date_text day))
+own_value-written delimiter columns at draws place (after_kind earlier lo hi) of all within = absurd (let own = of.own in cc)
+own_value-written delimiter columns at draws place (sum_kind operands) of all within = absurd (let own = of.own in cc)
+own_value-written delimiter columns at draws place (product_kind operands) of all within = absurd (let own = of.own in cc)
 
 option_map-if : {A B : Type 0} (f : A → B) (null : Bool) (held : Option A) → option_map f (if null then None else held) ≡ (if null then None else option_map f held)
 option_map-if f true held = refl

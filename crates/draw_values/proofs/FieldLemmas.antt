@@ -6,13 +6,13 @@ use Rattle.std.proofs.lemmas.Int.{ints}
 use Rattle.row_text.specs.Fields.{field_text, escaped_text}
 use Rattle.schema_plan.specs.declared.ready.ReadyColumn.{ReadyColumn}
 use Rattle.schema_plan.specs.declared.ready.ReadyKind.{ReadyKind}
-use Rattle.schema_plan.specs.Layout.{ColumnLayout, KindLayout, Layout, key_kind, born_kind, changed_kind, leaf_kind, template_kind, case_kind, reference_kind, lookup_kind, list_kind, unit_date_kind, column_at, table_at}
+use Rattle.schema_plan.specs.Layout.{ColumnLayout, KindLayout, Layout, key_kind, born_kind, changed_kind, leaf_kind, template_kind, case_kind, reference_kind, lookup_kind, list_kind, unit_date_kind, after_kind, sum_kind, product_kind, column_at, table_at}
 use Rattle.schema_plan.specs.Limits.{IsDateRange, IsTableInLimits, IsUnitDateInLimits}
 use Rattle.schema_plan.specs.Ready.{ready_column, ready_columns, ready_kind}
 use Rattle.draw_values.specs.declared.values.RowAt.{RowAt}
 use Rattle.draw_values.specs.ReadyValues.{HasDay, IsReadyKind, chooser_of, ready_field, ready_kind_size}
 use Rattle.draw_values.specs.Values.{Draws, draws_at, is_own, put_of, size_at, value_at, written}
-use Rattle.draw_values.proofs.ColumnLemmas.{IsAllInLimits, IsOwn, bounds_of-ready, chooser_of-within, kind_is_ready, length-ready_columns, own_field-written, ready_column-at}
+use Rattle.draw_values.proofs.ColumnLemmas.{IsAllInLimits, IsOwn, chooser_of-within, kind_is_ready, length-ready_columns, own_field-written, ready_column-at, size_of-ready}
 
 -- ---- a value that is known as it is written
 
@@ -76,7 +76,7 @@ field_is_ready layout table place by column chooser kept =
 pub size_at-kept : (layout : Layout) (table place by : ℕ) (column chooser : ReadyColumn) → IsKeptField layout table place by column chooser →
     size_at layout table place ≡ max 2 (ready_kind_size column.kind)
 size_at-kept layout table place by column chooser kept =
-    bounds_of-ready layout.delimiter layout.tables (table_at layout.tables table) (table_at layout.tables table).columns place (column_at (table_at layout.tables table).columns place).kind kept.own
+    size_of-ready layout.delimiter layout.tables (table_at layout.tables table).columns place (column_at (table_at layout.tables table).columns place).kind kept.own
     ∙ ap (λ (found : ReadyColumn). max 2 (ready_kind_size found.kind)) (sym kept.column_is)
 
 pub value_at-kept : (layout : Layout) (table place by : ℕ) (column chooser : ReadyColumn) → IsKeptField layout table place by column chooser →
@@ -111,6 +111,9 @@ kind_has_day delimiter units (lookup_kind via parent name) at born changed limit
 kind_has_day delimiter units (list_kind words) at born changed limits = tt
 kind_has_day delimiter units (unit_date_kind true start step) at born changed limits = days_up_to start step units at.changed changed limits
 kind_has_day delimiter units (unit_date_kind false start step) at born changed limits = days_up_to start step units at.born born limits
+kind_has_day delimiter units (after_kind of lo hi) at born changed limits = tt
+kind_has_day delimiter units (sum_kind of) at born changed limits = tt
+kind_has_day delimiter units (product_kind of) at born changed limits = tt
 
 pub column_has_day : (layout : Layout) (table place units : ℕ) (column : ReadyColumn) (at : RowAt) → IsTableInLimits units (table_at layout.tables table) → place < length (table_at layout.tables table).columns →
     column ≡ ready_column layout.delimiter (column_at (table_at layout.tables table).columns place) → at.born ≤ units → at.changed ≤ units → HasDay column.kind at

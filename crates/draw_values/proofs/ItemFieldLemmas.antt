@@ -7,7 +7,7 @@ use Rattle.schema_plan.specs.declared.ready.ReadyKind.{ReadyKind}
 use Rattle.schema_plan.specs.declared.ready.ReadyKind.TheVariants as kind
 use Rattle.schema_plan.specs.declared.ready.ReadyLeaf.{ReadyLeaf}
 use Rattle.schema_plan.specs.Dictionaries.{Project}
-use Rattle.schema_plan.specs.Layout.{KindLayout, key_kind, born_kind, changed_kind, leaf_kind, template_kind, case_kind, reference_kind, lookup_kind, list_kind, unit_date_kind, column_at, layout_of, table_at}
+use Rattle.schema_plan.specs.Layout.{KindLayout, key_kind, born_kind, changed_kind, leaf_kind, template_kind, case_kind, reference_kind, lookup_kind, list_kind, unit_date_kind, after_kind, sum_kind, product_kind, column_at, layout_of, table_at}
 use Rattle.schema_plan.specs.Limits.{IsTableInLimits}
 use Rattle.schema_plan.specs.Ready.{ready_columns, ready_kind}
 use Rattle.draw_values.specs.declared.values.RowAt.{RowAt}
@@ -32,6 +32,9 @@ itemized_own delimiter (reference_kind parent window spread nulls drawn) itemize
 itemized_own delimiter (lookup_kind via parent name) itemized = itemized
 itemized_own delimiter (list_kind words) itemized = refl
 itemized_own delimiter (unit_date_kind changed start step) itemized = refl
+itemized_own delimiter (after_kind of lo hi) itemized = itemized
+itemized_own delimiter (sum_kind of) itemized = itemized
+itemized_own delimiter (product_kind of) itemized = itemized
 
 itemized_chooser : (place : ℕ) (held : ReadyKind) → is_itemized held ≡ true → place ≡ chooser_of place held
 itemized_chooser place kind.Key itemized = refl
@@ -44,6 +47,9 @@ itemized_chooser place (kind.Reference reference) itemized = refl
 itemized_chooser place (kind.Lookup lookup) itemized = refl
 itemized_chooser place (kind.List list) itemized = refl
 itemized_chooser place (kind.UnitDate date) itemized = refl
+itemized_chooser place (kind.After after) itemized = refl
+itemized_chooser place (kind.Sum of) itemized = refl
+itemized_chooser place (kind.Product of) itemized = refl
 
 -- the column that is kept for one
 pub kept_itemized : (plan : Project) (run : RunColumnOf) (kept : List ReadyColumn) (column : ReadyColumn) (units : ℕ) → IsRunColumn plan run → kept ≡ ready_columns (layout_of plan) run.table →

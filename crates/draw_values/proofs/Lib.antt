@@ -18,3 +18,4 @@ pub mod ItemLemmas
 pub mod ItemFieldLemmas
 pub mod ShortNumberLemmas
 pub mod GroupLemmas
+pub mod OwnEndLemmas

@@ -9,15 +9,15 @@ use Rattle.dictionaries.specs.WordList.{WordList}
 use Rattle.weight_tables.specs.Harmonic.{harmonic_weights}
 use Rattle.weight_tables.proofs.HarmonicLemmas.{length-harmonic_weights}
 use Rattle.row_text.specs.Fields.{escaped_text}
-use Rattle.schema_plan.specs.FieldBounds.{entry_size, greatest_by, joined_size, leaf_size, written_size}
+use Rattle.schema_plan.specs.FieldSizes.{entry_size, greatest_by, joined_size, leaf_size, written_size}
 use Rattle.schema_plan.specs.Layout.{LeafLayout, int_leaf, fixed_leaf, date_leaf, pick_leaf, skew_leaf, dict_leaf, words_leaf, chars_leaf, uuid_leaf}
 use Rattle.schema_plan.specs.Limits.{IsLeafInLimits}
 use Rattle.schema_plan.specs.Ready.{ready_leaf}
 use Rattle.schema_plan.specs.ReadyWords.{written_words}
 use Rattle.draw_values.specs.Dates.{date_text}
 use Rattle.draw_values.specs.Digits.{signed_pointed}
-use Rattle.draw_values.specs.ReadyValues.{IsReady, ready_size, ready_text}
-use Rattle.draw_values.specs.Values.{Draws, chosen, chosen_group, leaf_value}
+use Rattle.draw_values.specs.ReadyValues.{IsReady, ready_leaf_day, ready_leaf_number, ready_size, ready_text}
+use Rattle.draw_values.specs.Values.{Draws, chosen, chosen_group, leaf_day, leaf_number, leaf_value}
 use Rattle.draw_values.proofs.CharacterLemmas.{escaped_text-drawn_characters, escaped_text-drawn_words}
 use Rattle.draw_values.proofs.PlainLemmas.{escaped_text-plain, plain-date_text, plain-signed_decimal, plain-signed_pointed}
 use Rattle.draw_values.proofs.UuidLemmas.{escaped_text-uuid_text}
@@ -54,6 +54,29 @@ leaf_value-written delimiter (words_leaf words lo hi) draw limits =
 leaf_value-written delimiter (chars_leaf alphabet lo hi) draw limits =
     ap Some (escaped_text-drawn_characters delimiter (chars alphabet) draw (lo + draw 1 % (hi - lo + 1)) limits.0.some_character)
 leaf_value-written delimiter uuid_leaf draw limits = ap Some (escaped_text-uuid_text delimiter (draw 1) (draw 2))
+
+-- the day and the number that are drawn
+pub leaf_day-ready : (delimiter : ℕ) (layout : LeafLayout) (draw : Draws) → ready_leaf_day (ready_leaf delimiter layout) draw ≡ leaf_day layout draw
+leaf_day-ready delimiter (int_leaf lo hi step) draw = refl
+leaf_day-ready delimiter (fixed_leaf lo hi decimals) draw = refl
+leaf_day-ready delimiter (date_leaf lo hi) draw = refl
+leaf_day-ready delimiter (pick_leaf entries weights) draw = refl
+leaf_day-ready delimiter (skew_leaf lo size power) draw = refl
+leaf_day-ready delimiter (dict_leaf words) draw = refl
+leaf_day-ready delimiter (words_leaf words lo hi) draw = refl
+leaf_day-ready delimiter (chars_leaf alphabet lo hi) draw = refl
+leaf_day-ready delimiter uuid_leaf draw = refl
+
+pub leaf_number-ready : (delimiter : ℕ) (layout : LeafLayout) (draw : Draws) → ready_leaf_number (ready_leaf delimiter layout) draw ≡ leaf_number layout draw
+leaf_number-ready delimiter (int_leaf lo hi step) draw = refl
+leaf_number-ready delimiter (fixed_leaf lo hi decimals) draw = refl
+leaf_number-ready delimiter (date_leaf lo hi) draw = refl
+leaf_number-ready delimiter (pick_leaf entries weights) draw = refl
+leaf_number-ready delimiter (skew_leaf lo size power) draw = refl
+leaf_number-ready delimiter (dict_leaf words) draw = refl
+leaf_number-ready delimiter (words_leaf words lo hi) draw = refl
+leaf_number-ready delimiter (chars_leaf alphabet lo hi) draw = refl
+leaf_number-ready delimiter uuid_leaf draw = refl
 
 -- its limits
 pub leaf_is_ready : (delimiter : ℕ) (layout : LeafLayout) → IsLeafInLimits layout → IsReady (ready_leaf delimiter layout)

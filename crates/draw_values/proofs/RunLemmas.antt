@@ -16,7 +16,7 @@ use Rattle.schema_plan.specs.declared.ready.ReadyKind.TheVariants as kind
 use Rattle.schema_plan.specs.declared.ready.ReadyLeaf.{ReadyLeaf}
 use Rattle.schema_plan.specs.declared.ready.ReadyLeaf.TheVariants as leaf
 use Rattle.schema_plan.specs.Dictionaries.{Project}
-use Rattle.schema_plan.specs.Layout.{KindLayout, key_kind, born_kind, changed_kind, leaf_kind, template_kind, case_kind, reference_kind, lookup_kind, list_kind, unit_date_kind, ColumnLayout, column_at, layout_of, table_at}
+use Rattle.schema_plan.specs.Layout.{KindLayout, key_kind, born_kind, changed_kind, leaf_kind, template_kind, case_kind, reference_kind, lookup_kind, list_kind, unit_date_kind, after_kind, sum_kind, product_kind, ColumnLayout, column_at, layout_of, table_at}
 use Rattle.schema_plan.specs.Limits.{IsKindInLimits, IsTableInLimits}
 use Rattle.schema_plan.specs.Ready.{ready_columns, ready_kind}
 use Rattle.draw_values.specs.declared.runs.RunRows.{RunRows}
@@ -42,6 +42,9 @@ short_own delimiter (reference_kind parent window spread nulls drawn) short = sh
 short_own delimiter (lookup_kind via parent name) short = short
 short_own delimiter (list_kind words) short = refl
 short_own delimiter (unit_date_kind changed start step) short = refl
+short_own delimiter (after_kind of lo hi) short = short
+short_own delimiter (sum_kind of) short = short
+short_own delimiter (product_kind of) short = short
 
 short_chooser : (place : ℕ) (held : ReadyKind) → is_short_alone held ≡ true → place ≡ chooser_of place held
 short_chooser place kind.Key short = refl
@@ -54,6 +57,9 @@ short_chooser place (kind.Reference reference) short = refl
 short_chooser place (kind.Lookup lookup) short = refl
 short_chooser place (kind.List list) short = refl
 short_chooser place (kind.UnitDate date) short = refl
+short_chooser place (kind.After after) short = refl
+short_chooser place (kind.Sum of) short = refl
+short_chooser place (kind.Product of) short = refl
 
 -- what is drawn is within its limits
 pub drawn_is_ready : (delimiter : ℕ) (columns : List ColumnLayout) (place : ℕ) (held : KindLayout) → IsKindInLimits columns place held → IsReadyDrawn (ready_kind delimiter held)
@@ -67,6 +73,9 @@ drawn_is_ready delimiter columns place (reference_kind parent window spread null
 drawn_is_ready delimiter columns place (lookup_kind via parent name) limits = tt
 drawn_is_ready delimiter columns place (list_kind words) limits = list_is_ready delimiter words
 drawn_is_ready delimiter columns place (unit_date_kind changed start step) limits = tt
+drawn_is_ready delimiter columns place (after_kind of lo hi) limits = tt
+drawn_is_ready delimiter columns place (sum_kind of) limits = tt
+drawn_is_ready delimiter columns place (product_kind of) limits = tt
 
 -- ---- values
 
@@ -93,6 +102,9 @@ short_value-ready seed changes (kind.Reference reference) rows i entry short = a
 short_value-ready seed changes (kind.Lookup lookup) rows i entry short = absurd (cc)
 short_value-ready seed changes (kind.List list) rows i entry short = refl
 short_value-ready seed changes (kind.UnitDate date) rows i entry short = refl
+short_value-ready seed changes (kind.After after) rows i entry short = absurd (cc)
+short_value-ready seed changes (kind.Sum of) rows i entry short = absurd (cc)
+short_value-ready seed changes (kind.Product of) rows i entry short = absurd (cc)
 
 -- the draws of a row's field
 pub run_draws : (plan : Project) (run : RunColumnOf) (column : ReadyColumn) (rows : RunRows) (i : ℕ) → IsRunColumn plan run → column ≡ ready_at plan run.table run.column →
@@ -189,6 +201,9 @@ short_value_size seed changes (kind.Reference reference) rows i short born chang
 short_value_size seed changes (kind.Lookup lookup) rows i short born changed few = absurd (cc)
 short_value_size seed changes (kind.List list) rows i short born changed few = entry_size 0 list.words.entries ((run_row rows i).ordinal % list.count)
 short_value_size seed changes (kind.UnitDate date) rows i short born changed few = omega (arith, length-date_text (ready_day date (run_row rows i)))
+short_value_size seed changes (kind.After after) rows i short born changed few = absurd (cc)
+short_value_size seed changes (kind.Sum of) rows i short born changed few = absurd (cc)
+short_value_size seed changes (kind.Product of) rows i short born changed few = absurd (cc)
 
 unless_null_size : (null : Bool) (value : List ℕ) (size : ℕ) → length value ≤ size → length (unwrap_or (if null then None else Some value) []) ≤ size
 unless_null_size true value size fits = omega arith
@@ -260,6 +275,9 @@ alone_from_short (kind.Reference reference) short no_case = short
 alone_from_short (kind.Lookup lookup) short no_case = short
 alone_from_short (kind.List list) short no_case = short
 alone_from_short (kind.UnitDate date) short no_case = short
+alone_from_short (kind.After after) short no_case = short
+alone_from_short (kind.Sum of) short no_case = short
+alone_from_short (kind.Product of) short no_case = short
 
 -- the place of the column that cases go by is a number of 32 bits
 pub chooser_small : (delimiter : ℕ) (columns : List ColumnLayout) (place : ℕ) (held : KindLayout) → IsKindInLimits columns place held → place < 2 ^ 32 → chooser_of 0 (ready_kind delimiter held) < 2 ^ 32
@@ -273,3 +291,6 @@ chooser_small delimiter columns place (reference_kind parent window spread nulls
 chooser_small delimiter columns place (lookup_kind via parent name) limits small = omega arith
 chooser_small delimiter columns place (list_kind words) limits small = omega arith
 chooser_small delimiter columns place (unit_date_kind changed start step) limits small = omega arith
+chooser_small delimiter columns place (after_kind of lo hi) limits small = omega arith
+chooser_small delimiter columns place (sum_kind of) limits small = omega arith
+chooser_small delimiter columns place (product_kind of) limits small = omega arith

@@ -11,8 +11,9 @@ use Rattle.schema_plan.specs.declared.ready.ReadyList.{ReadyList}
 use Rattle.schema_plan.specs.declared.ready.ReadyUnitDate.{ReadyUnitDate}
 use Rattle.schema_plan.specs.declared.ready.ReadyLeaf.TheVariants as leaf
 use Rattle.schema_plan.specs.Choices.{choices}
-use Rattle.schema_plan.specs.FieldBounds.{greatest_by, joined_size}
+use Rattle.schema_plan.specs.FieldSizes.{greatest_by, joined_size}
 use Rattle.schema_plan.specs.Limits.{IsDateRange, IsRange}
+use Rattle.draw_values.specs.declared.leaf_numbers.Number.{Number}
 use Rattle.draw_values.specs.declared.values.RowAt.{RowAt}
 use Rattle.draw_values.specs.Dates.{date_text}
 use Rattle.draw_values.specs.Digits.{signed_pointed}
@@ -39,6 +40,18 @@ ready_text (leaf.Chars lo lengths characters count) draw = chosen_texts characte
 ready_text (leaf.Dict words) draw = slice_index_or words.entries (chosen_group words.weights (draw 1)) []
 ready_text (leaf.Words lo lengths words) draw = drawn_words words draw (lo + draw 1 % lengths)
 ready_text leaf.Uuid draw = uuid_text (draw 1) (draw 2)
+
+-- the day that is drawn, of a date
+abbrev pub ready_leaf_day : ReadyLeaf → Draws → Option ℤ
+ready_leaf_day (leaf.Date lo hi count) draw = Some (chosen lo hi 1 (draw 1))
+ready_leaf_day _ draw = None
+
+-- the number that is drawn, of what is a number
+abbrev pub ready_leaf_number : ReadyLeaf → Draws → Option Number
+ready_leaf_number (leaf.Int lo hi step count) draw = Some (record { value = chosen lo hi step (draw 1); decimals = 0 })
+ready_leaf_number (leaf.Fixed lo hi count decimals unit) draw = Some (record { value = chosen lo hi 1 (draw 1); decimals = decimals })
+ready_leaf_number (leaf.Skew lo weights total) draw = Some (record { value = lo +ℤ pos (chosen_group weights (draw 1)); decimals = 0 })
+ready_leaf_number _ draw = None
 
 -- the greatest size of such a text, in bytes
 abbrev pub ready_size : ReadyLeaf → ℕ
@@ -89,6 +102,17 @@ ready_entry_in_turn list ordinal = slice_index_or list.words.entries (ordinal % 
 -- the day that a row shows
 abbrev pub ready_day : ReadyUnitDate → RowAt → ℤ
 ready_day date at = unit_day date.changed date.start date.step at
+
+-- the day that a field shows that isn't null, by the row and its draws; None of a kind that shows no day of its own
+abbrev pub ready_own_day : RowAt → Draws → ReadyKind → Option ℤ
+ready_own_day at draw (kind.Drawn leaf) = ready_leaf_day leaf draw
+ready_own_day at draw (kind.UnitDate date) = Some (ready_day date at)
+ready_own_day at draw _ = None
+
+-- the number that it is
+abbrev pub ready_own_number : Draws → ReadyKind → Option Number
+ready_own_number draw (kind.Drawn leaf) = ready_leaf_number leaf draw
+ready_own_number draw _ = None
 
 -- what is written for a field of a row's place and units or of draws that isn't null, by the row, the entry that its pick column
 -- holds, and its draws; None where its pick column's field is null

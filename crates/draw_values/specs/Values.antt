@@ -10,8 +10,9 @@ use Rattle.weight_tables.specs.Harmonic.{harmonic_weights}
 use Rattle.weight_tables.specs.Weights.{selected}
 use Rattle.row_text.specs.Fields.{escaped_text}
 use Rattle.schema_plan.specs.Choices.{choices}
-use Rattle.schema_plan.specs.FieldBounds.{bounds_of}
-use Rattle.schema_plan.specs.Layout.{LeafLayout, int_leaf, fixed_leaf, date_leaf, pick_leaf, skew_leaf, dict_leaf, words_leaf, chars_leaf, uuid_leaf, KindLayout, key_kind, born_kind, changed_kind, leaf_kind, template_kind, case_kind, reference_kind, lookup_kind, ColumnLayout, Layout, table_at, column_at, list_kind, unit_date_kind}
+use Rattle.schema_plan.specs.FieldSizes.{size_of}
+use Rattle.schema_plan.specs.Layout.{LeafLayout, int_leaf, fixed_leaf, date_leaf, pick_leaf, skew_leaf, dict_leaf, words_leaf, chars_leaf, uuid_leaf, KindLayout, key_kind, born_kind, changed_kind, leaf_kind, template_kind, case_kind, reference_kind, lookup_kind, ColumnLayout, Layout, table_at, column_at, list_kind, unit_date_kind, after_kind, sum_kind, product_kind}
+use Rattle.draw_values.specs.declared.leaf_numbers.Number.{Number}
 use Rattle.draw_values.specs.declared.values.RowAt.{RowAt}
 use Rattle.draw_values.specs.declared.values.Put.{Put}
 use Rattle.draw_values.specs.declared.values.Put.TheVariants.{Text, Null}
@@ -57,6 +58,22 @@ leaf_value (dict_leaf words) draw = Some (slice_index_or words.entries (chosen_g
 leaf_value (words_leaf words lo hi) draw = Some (drawn_words words draw (lo + draw 1 % (hi - lo + 1)))
 leaf_value (chars_leaf alphabet lo hi) draw = Some (drawn_characters (chars alphabet) draw (lo + draw 1 % (hi - lo + 1)))
 leaf_value uuid_leaf draw = Some (uuid_text (draw 1) (draw 2))
+
+-- the day that a drawn date shows; no other drawn value shows a day
+abbrev pub leaf_day : LeafLayout → Draws → Option ℤ
+leaf_day (date_leaf lo hi) draw = Some (chosen lo hi 1 (draw 1))
+leaf_day _ draw = None
+
+-- the number of a drawn value; what is no number has none
+abbrev pub leaf_number : LeafLayout → Draws → Option Number
+leaf_number (int_leaf lo hi step) draw = Some (record { value = chosen lo hi step (draw 1); decimals = 0 })
+leaf_number (fixed_leaf lo hi decimals) draw = Some (record { value = chosen lo hi 1 (draw 1); decimals = decimals })
+leaf_number (skew_leaf lo size power) draw = Some (record { value = lo +ℤ pos (chosen_group (harmonic_weights size power) (draw 1)); decimals = 0 })
+leaf_number _ draw = None
+
+-- how a number is spelled
+abbrev pub number_text : Number → List ℕ
+number_text number = signed_pointed number.decimals number.value
 
 -- the draws of a row's fields, by the column's place
 abbrev pub RowDraws : Type 0
@@ -116,6 +133,20 @@ own_value columns at draws column (reference_kind parent window spread nulls dra
 own_value columns at draws column (lookup_kind via parent name) = not_own
 own_value columns at draws column (list_kind words) = Some (entry_in_turn words at.ordinal)
 own_value columns at draws column (unit_date_kind changed start step) = Some (date_text (unit_day changed start step at))
+own_value columns at draws column (after_kind of lo hi) = not_own
+own_value columns at draws column (sum_kind of) = not_own
+own_value columns at draws column (product_kind of) = not_own
+
+-- the day that such a value shows, by the row and the draws of its field; None where it shows no day
+abbrev pub own_day : RowAt → Draws → KindLayout → Option ℤ
+own_day at draw (leaf_kind leaf) = leaf_day leaf draw
+own_day at draw (unit_date_kind changed start step) = Some (unit_day changed start step at)
+own_day at draw _ = None
+
+-- the number that it is; None where it is no number
+abbrev pub own_number : Draws → KindLayout → Option Number
+own_number draw (leaf_kind leaf) = leaf_number leaf draw
+own_number draw _ = None
 
 -- the field of a row in the column at a place, which is of such a kind
 abbrev pub own_field : List ColumnLayout → RowAt → RowDraws → ℕ → Option (List ℕ)
@@ -139,8 +170,8 @@ value_at layout table column at = own_field (table_at layout.tables table).colum
 -- the greatest size of such a field as it is written, in bytes
 abbrev pub size_at : Layout → ℕ → ℕ → ℕ
 size_at layout table column =
-    (bounds_of layout.delimiter layout.tables (table_at layout.tables table)
-    (column_at (table_at layout.tables table).columns column).kind).size
+    size_of layout.delimiter layout.tables (table_at layout.tables table).columns
+    (column_at (table_at layout.tables table).columns column).kind
 
 -- whether a value is a text or null
 abbrev pub put_of : Option (List ℕ) → Put

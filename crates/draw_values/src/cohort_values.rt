@@ -1,22 +1,26 @@
 //! The values of the rows with one unit of birth and one unit of last change. What doesn't change from row to row is worked out
 //! once.
 
-ghost use Rattle.std.specs.Prelude.{◌≡◌, ◌<◌, ◌≤◌, ℕ, ◌+◌, ◌++◌, true, length, map, slice_index};
+ghost use Rattle.std.specs.Prelude.{◌≡◌, ◌<◌, ◌≤◌, ℕ, ◌+◌, ◌++◌, IfSome, true, length, map, slice_index};
 ghost use Rattle.philox_seeds.specs.SeedTree.{unit_seed as unit_seed_of};
 ghost use Rattle.row_text.specs.Fields.{field_text};
+ghost use Rattle.schema_plan.specs.Choices.{choices};
+ghost use Rattle.schema_plan.specs.Ends.{IsBetween};
 ghost use Rattle.schema_plan.specs.Layout.{column_at, layout_of};
-ghost use Rattle.draw_values.specs.CohortValues.{is_null_for, table_for, row_for, value_size_for, value_for};
+ghost use Rattle.schema_plan.specs.Limits.{IsAfterRange};
+ghost use Rattle.draw_values.specs.CohortValues.{IsDayOf, IsNumberOf, day_for, facts_for, is_null_for, number_for, table_for, row_for, value_size_for, value_for};
 ghost use Rattle.draw_values.specs.ReadyValues.{row_draws};
 ghost use Rattle.draw_values.specs.Runs.{AreColumnsOf, RunColumnOf};
-ghost use Rattle.draw_values.specs.Values.{draws_at, is_own, put_of, written};
+ghost use Rattle.draw_values.specs.Values.{chosen, draws_at, is_own, put_of, written};
 
 use crate::Put;
 use crate::fields::{Drawn, chooser_of, is_null, put_field};
+use crate::leaf_numbers::{Number, days_after, own_day, own_number};
 use crate::run_column::RunColumn;
 use crate::values::RowAt;
 use line_pages::PageBuf;
 use philox_seeds::{column_seed, table_seed, unit_seed};
-use schema_plan::{Plan, ReadyColumn};
+use schema_plan::{Plan, ReadyAfter, ReadyColumn};
 use std::marker::Model;
 
 /// Where the seeds of a table's columns come from.
@@ -122,6 +126,47 @@ impl<'a> CohortValues<'a> {
     {
         let columns = self.columns;
         is_null(columns[column].null, self.seed(column), ordinal)
+    }
+
+    /// Returns the day that the row shows in the column at a place by its units or its own draws. The column can be of any kind.
+    /// Returns None if it shows no such day. If the field is null, the day is the one that it would show.
+    #[inline(always)]
+    pub fn day(&self, column: usize, ordinal: u64) -> Option<i64>
+        requires { column < length (table_for self.now).columns }
+        ensures exact { result ≡ day_for self.now column ordinal }
+        ensures within { IfSome result (IsDayOf (facts_for self.now column).days) }
+    {
+        let columns = self.columns;
+        let at = RowAt {
+            ordinal,
+            born: self.born,
+            changed: self.changed,
+        };
+        own_day(&columns[column].kind, self.seed(column), at)
+    }
+
+    /// Returns by how many days the row's date in the column at a place follows another one, as it is drawn.
+    #[inline(always)]
+    pub fn days_after(&self, column: usize, after: &ReadyAfter, ordinal: u64) -> i64
+        requires column { column < length (table_for self.now).columns }
+        requires range { IsAfterRange after.now.lo after.now.hi }
+        requires choices { after.now.choices ≡ choices after.now.lo after.now.hi 1 }
+        ensures exact { result ≡ chosen after.now.lo after.now.hi 1 (draws_at (layout_of self.now.plan) self.now.table (row_for self.now ordinal) column 1) }
+        ensures range { IsBetween after.now.lo after.now.hi result }
+    {
+        days_after(after, self.seed(column), ordinal)
+    }
+
+    /// Returns the number that is drawn for the row in the column at a place. The column can be of any kind. Returns None if none is
+    /// drawn. If the field is null, the number is the one that it would hold.
+    #[inline(always)]
+    pub fn number(&self, column: usize, ordinal: u64) -> Option<Number>
+        requires { column < length (table_for self.now).columns }
+        ensures exact { result ≡ number_for self.now column ordinal }
+        ensures within { IfSome result (IsNumberOf (facts_for self.now column).numbers) }
+    {
+        let columns = self.columns;
+        own_number(&columns[column].kind, self.seed(column), ordinal)
     }
 
     /// Appends the row's field in the column at a place, as it is written. A null field appends nothing. The column must be one of

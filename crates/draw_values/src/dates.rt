@@ -10,7 +10,7 @@ use line_pages::{PageBuf, Piece};
 
 /// Appends the date of a day: 10 bytes, which must be free. Days count from 1970-01-01, which is day 0. The year must be 1 to 9999.
 #[inline(always)]
-pub(crate) fn put_date(day: i64, buf: &mut PageBuf)
+pub fn put_date(day: i64, buf: &mut PageBuf)
     requires first_day { neg_ℤ (pos 719162) ≤ℤ day }
     requires last_day { day ≤ℤ pos 2932896 }
     requires room { length buf.old.text + 10 ≤ buf.old.room }
@@ -22,7 +22,7 @@ pub(crate) fn put_date(day: i64, buf: &mut PageBuf)
 
 /// Returns the date of a day, as `put_date` writes it, before the piece `rest` of at most 6 bytes.
 #[inline(always)]
-pub(crate) fn day_piece(day: i64, rest: Piece) -> Piece
+pub fn day_piece(day: i64, rest: Piece) -> Piece
     requires first_day { neg_ℤ (pos 719162) ≤ℤ day }
     requires last_day { day ≤ℤ pos 2932896 }
     requires room { length (piece_text rest) ≤ 6 }

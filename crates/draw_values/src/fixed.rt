@@ -4,10 +4,23 @@ ghost use Rattle.std.specs.Prelude.{◌≡◌, ◌<◌, ◌≤◌, ◌+◌, ◌^
 ghost use Rattle.line_pages.specs.Pieces.{piece_text};
 ghost use Rattle.line_pages.specs.Digits.{last_digits};
 ghost use Rattle.draw_values.specs.Digits.{pointed, signed_pointed};
+ghost use Rattle.draw_values.specs.Values.{number_text};
 
 use crate::digits::prepend_digits;
+use crate::leaf_numbers::Number;
 use fixed_divisors::FixedDivisor;
 use line_pages::{Digits, PageBuf, Piece};
+
+/// Appends a number with its point. At most 9 digits may stand after the point, and 21 bytes must be free.
+pub fn put_number(number: Number, buf: &mut PageBuf)
+    requires decimals { number.decimals ≤ 9 }
+    requires room { length buf.old.text + 21 ≤ buf.old.room }
+    ensures text { buf.new ≡ record buf.old { text = buf.old.text ++ number_text number } }
+    ensures size { length (number_text number) ≤ 21 }
+{
+    let unit = FixedDivisor::new(10u64.pow(number.decimals));
+    put_fixed(number.value, number.decimals, &unit, buf);
+}
 
 /// Appends a number with a point before its last `decimals` digits, 0 to 9. `unit` is 10 to the power of `decimals`. 21 bytes must
 /// be free.

@@ -2,7 +2,7 @@
 //!
 //! Days are counted from 1970-01-01, which is day 0.
 
-ghost use Rattle.std.specs.Prelude.{◌≡◌, ℕ, ◌+◌, ◌*◌, ◌^◌, ◌<◌, ◌≤◌, ℤ, pos, neg_ℤ, ◌+ℤ◌, ◌≤ℤ◌, ◌%◌, List, [], ◌∷◌, None, Some, codes, encode_utf8, flat_map, length, slice_index};
+ghost use Rattle.std.specs.Prelude.{◌≡◌, ℕ, ◌+◌, ◌*◌, ◌^◌, ◌<◌, ◌≤◌, ℤ, pos, neg_ℤ, ◌+ℤ◌, ◌≤ℤ◌, ◌%◌, List, [], ◌∷◌, None, Some, codes, encode_utf8, flat_map, length, option_map, slice_index};
 ghost use Rattle.std.specs.Fmt.{signed_decimal};
 ghost use Rattle.std.specs.List.{range_with_len};
 ghost use Rattle.dictionaries.specs.WordList.{WordList};
@@ -17,7 +17,7 @@ ghost use Rattle.uuid.specs.Parts.{variant_of};
 ghost use Rattle.uuid.specs.Text.{parsed};
 ghost use Rattle.uuid.specs.Uuid.{version_num};
 ghost use Rattle.draw_values.specs.Uuids.{uuid_bytes, uuid_text};
-ghost use Rattle.draw_values.specs.Values.{Draws, chosen, drawn_characters, drawn_words, leaf_value, unless_null};
+ghost use Rattle.draw_values.specs.Values.{Draws, chosen, drawn_characters, drawn_words, leaf_day, leaf_number, leaf_value, number_text, unless_null};
 
 use uuid::Variant;
 
@@ -67,6 +67,18 @@ pub fn uuids_are_of_version_4()
     ensures size { (first second : ℕ) → length (uuid_text first second) ≡ 36 }
     ensures written { (delimiter first second : ℕ) →
         escaped_text delimiter (uuid_text first second) ≡ uuid_text first second }
+{}
+
+/// A drawn date is written as that of its day, and a drawn number as its digits with the point where it belongs.
+pub fn drawn_days_and_numbers_are_those_that_are_written()
+    ensures date { (lo hi : ℤ) (draw : Draws) →
+        leaf_value (date_leaf lo hi) draw ≡ option_map date_text (leaf_day (date_leaf lo hi) draw) }
+    ensures int { (lo hi : ℤ) (step : ℕ) (draw : Draws) →
+        leaf_value (int_leaf lo hi step) draw ≡ option_map number_text (leaf_number (int_leaf lo hi step) draw) }
+    ensures fixed { (lo hi : ℤ) (decimals : ℕ) (draw : Draws) →
+        leaf_value (fixed_leaf lo hi decimals) draw ≡ option_map number_text (leaf_number (fixed_leaf lo hi decimals) draw) }
+    ensures skew { (lo : ℤ) (size power : ℕ) (draw : Draws) →
+        leaf_value (skew_leaf lo size power) draw ≡ option_map number_text (leaf_number (skew_leaf lo size power) draw) }
 {}
 
 /// Values worked out by hand. Draw n is 2 * n + 1, so the draw that is used is 3. For the skew, draw n is n * 10^9.

@@ -18,6 +18,7 @@ mod fixed;
 mod items;
 mod kept;
 pub mod laws;
+mod leaf_numbers;
 mod leaves;
 mod numbers;
 mod run_cases;
@@ -34,7 +35,10 @@ mod words;
 
 pub use cohort_values::CohortValues;
 pub use column_seeds::ColumnSeeds;
+pub use dates::{day_piece, put_date};
+pub use fixed::put_number;
 pub use items::ItemizedField;
+pub use leaf_numbers::{Number, leaf_day, leaf_number};
 pub use run_column::RunColumn;
 pub use runs::{RUN_LIMIT, RunNumbers, RunRows};
 pub use values::{Put, RowAt, put_value};

@@ -22,7 +22,7 @@ const LEAF_KINDS: &str = "int, fixed, date, pick, skew, dict, words, chars, uuid
 
 /// The kinds that only a column can have.
 const OTHER_KINDS: &str =
-    "key, born, changed, born_date, changed_date, list, template, case, ref, lookup";
+    "key, born, changed, born_date, changed_date, list, template, case, after, sum, product, ref, lookup";
 
 /// Returns the keys of a kind, beside those of any kind.
 fn own_keys(kind: &str) -> &'static str {
@@ -41,6 +41,9 @@ fn own_keys(kind: &str) -> &'static str {
         "chars" => "alphabet, lo, hi",
         "template" => "parts",
         "case" => "on, branches",
+        "after" => "of, lo, hi",
+        "sum" => "of",
+        "product" => "of",
         "ref" => "table, window, spread, on_delete, deal",
         "lookup" => "via, column",
         _ => "",

@@ -115,6 +115,12 @@ fn put_numbers_of_column(
         Kind::BornDate { step, .. } | Kind::ChangedDate { step, .. } if broken.number == 26 => {
             writeln!(hints, "hint: step {step}, units {}", broken.schema.units)
         }
+        Kind::After { of, lo, hi } if broken.number == 27 => {
+            writeln!(hints, "hint: of \"{}\", lo {lo}, hi {hi}", of.as_str())
+        }
+        Kind::Sum { of } | Kind::Product { of } if broken.number == 28 => {
+            writeln!(hints, "hint: {} names", of.len())
+        }
         _ if broken.number == 25 => {
             writeln!(
                 hints,

@@ -97,9 +97,20 @@ fn rule_words(number: u32) -> &'static str {
             "a lookup goes by an earlier cascading reference, and shows a column that doesn't move and is no lookup",
         23 => "the cost of a row is at most 4,096",
         24 => "a line has at most 65,536 bytes, by the greatest sizes of its fields",
+        _ => late_rule_words(number),
+    }
+}
+
+/// Returns what one of the rules says that are tried last: those from 25 on.
+fn late_rule_words(number: u32) -> &'static str {
+    match number {
         25 =>
             "`null` is 0 to 999, and `null` and `changes = true` stand only with kinds that take them",
         26 => "`step` is 0 to 3,660, and the day of unit `units` is at most 9999-12-31",
+        27 =>
+            "`of` names an earlier dated column that doesn't move, `lo` and `hi` are -36,525 to 36,525, and all days are of the years 0001 to 9999",
+        28 =>
+            "`of` names earlier numeric columns that don't move, 1 to 8 of a sum and 2 to 4 of a product, and the result stays within 64 bits, 9 digits after the point and 64 drawn values",
         29 =>
             "the `width` of a part is 1 to 64, and it cites a `key`, `born`, `changed`, `int`, `skew` or `ref`",
         _ => "",

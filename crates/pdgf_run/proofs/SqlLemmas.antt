@@ -9,7 +9,7 @@ use Rattle.std.proofs.lemmas.List.FromFn.{length-range_with_len}
 use Rattle.std.proofs.lemmas.List.Sums.{sum_by-cons}
 use Rattle.std.proofs.lemmas.Nat.{mul-le}
 use Rattle.schema_plan.specs.Dictionaries.{Project}
-use Rattle.schema_plan.specs.FieldBounds.{bounds_of}
+use Rattle.schema_plan.specs.FieldSizes.{size_of}
 use Rattle.schema_plan.specs.Layout.{ColumnLayout, Layout, TableLayout}
 use Rattle.schema_plan.specs.TableFacts.{line_of_table, reach}
 use Rattle.schema_plan.specs.Limits.{IsInLimits}
@@ -234,24 +234,24 @@ literal-more : (bare : Bool) (size : ℕ) → size ≤ literal_size bare size
 literal-more true size = omega arith
 literal-more false size = omega arith
 
-fields-more : {A : Type 0} (size : A → ℕ) (bounds : ColumnLayout → A) (literal : ColumnLayout → ℕ) (columns : List ColumnLayout) → ((column : ColumnLayout) → size (bounds column) ≤ literal column) →
-    sum_by (λ (field : A). size field + 1) (map bounds columns) ≤ sum_by (λ (column : ColumnLayout). 40 + literal column) columns
-fields-more size bounds literal [] each = omega arith
-fields-more {A = A} size bounds literal (column ∷ columns) each =
+fields-more : (size literal : ColumnLayout → ℕ) (columns : List ColumnLayout) → ((column : ColumnLayout) → size column ≤ literal column) →
+    sum_by (λ n. n + 1) (map size columns) ≤ sum_by (λ (column : ColumnLayout). 40 + literal column) columns
+fields-more size literal [] each = omega arith
+fields-more size literal (column ∷ columns) each =
     omega (
       arith,
-      sum_by-cons (λ (field : A). size field + 1) (bounds column) (map bounds columns),
+      sum_by-cons (λ n. n + 1) (size column) (map size columns),
       sum_by-cons (λ (c : ColumnLayout). 40 + literal c) column columns,
       each column,
-      fields-more size bounds literal columns each,
+      fields-more size literal columns each,
     )
 
 table-more : (layout : Layout) (table : TableLayout) → line_of_table layout table ≤ statement_of_table layout table
 table-more layout table =
     omega (
       arith,
-      fields-more (λ field. field.size) (λ (column : ColumnLayout). bounds_of layout.delimiter layout.tables table column.kind) (literal_of_column layout table) table.columns
-          (λ column. literal-more (is_bare layout.tables column.kind) (bounds_of layout.delimiter layout.tables table column.kind).size),
+      fields-more (λ (column : ColumnLayout). size_of layout.delimiter layout.tables table.columns column.kind) (literal_of_column layout table) table.columns
+          (λ column. literal-more (is_bare layout.tables column.kind) (size_of layout.delimiter layout.tables table.columns column.kind)),
     )
 
 pub reach-more : (layout : Layout) → reach layout ≤ statement_reach layout

@@ -1,18 +1,22 @@
 -- The fields of a row of a cohort, but for lookups.
-use Rattle.std.proofs.Common.{◌≡◌, ◌<◌, ◌≤◌, ◌^◌, ℕ, zero, suc, ◌+◌, Bool, false, true, List, [], length, codes, decimal, Option, Some, None, get_or, if◌then◌else◌, refl, ap, sym, subst, ◌∙◌, arith}
+use Rattle.std.proofs.Common.{◌≡◌, ◌<◌, ◌≤◌, ◌^◌, ℕ, zero, suc, ◌+◌, Bool, false, true, List, [], length, codes, decimal, Option, Some, None, get_or, if◌then◌else◌, refl, ap, sym, subst, zero-add, ◌∙◌, arith}
 use Rattle.std.proofs.lemmas.List.{get_or-map, length-map}
 use Rattle.row_text.specs.Fields.{field_text}
 use Rattle.row_text.proofs.DigitLemmas.{escaped_text-decimal}
+use Rattle.schema_plan.specs.declared.column_facts.ColumnFacts.{ColumnFacts}
+use Rattle.schema_plan.specs.declared.ready.ReadyAfter.{ReadyAfter}
 use Rattle.schema_plan.specs.declared.ready.ReadyColumn.{ReadyColumn}
-use Rattle.schema_plan.specs.declared.ready.ReadyKind.TheVariants.{Key, Reference, Template}
+use Rattle.schema_plan.specs.declared.ready.ReadyKind.TheVariants.{After, Key, Product, Reference, Sum, Template}
 use Rattle.schema_plan.specs.declared.ready.ReadyPart.{ReadyPart}
 use Rattle.schema_plan.specs.declared.ready.ReadyReference.{ReadyReference}
 use Rattle.cohort_sizes.specs.Births.{cohort_size, first_ordinal}
-use Rattle.schema_plan.specs.FieldBounds.{bounds_of}
-use Rattle.schema_plan.specs.Layout.{ColumnLayout, KindLayout, born_kind, case_kind, changed_kind, column_at, key_kind, layout_of, leaf_kind, list_kind, unit_date_kind, no_column, reference_kind, template_kind}
+use Rattle.schema_plan.specs.ColumnFacts.{field_cost}
+use Rattle.schema_plan.specs.FieldSizes.{size_of}
+use Rattle.schema_plan.specs.Layout.{ColumnLayout, KindLayout, born_kind, case_kind, changed_kind, column_at, key_kind, layout_of, leaf_kind, list_kind, unit_date_kind, after_kind, sum_kind, product_kind, no_column, reference_kind, template_kind}
 use Rattle.schema_plan.specs.Limits.{is_lookup_kind}
-use Rattle.schema_plan.specs.Lineage.{one_if}
+use Rattle.schema_plan.specs.Lineage.{lineages, null_cost_of, one_if}
 use Rattle.schema_plan.specs.Ready.{ready_column, ready_columns, ready_kind}
+use Rattle.schema_plan.proofs.FieldFactsLemmas.{IsColumnOf, field_facts-kind}
 use Rattle.draw_values.specs.CohortValues.{ValuesOf, value_for}
 use Rattle.draw_values.specs.declared.values.Put.TheVariants.{Text, Null}
 use Rattle.draw_values.specs.Values.{is_own, put_of, written}
@@ -21,7 +25,8 @@ use Rattle.life_intervals.specs.Intervals.{row_at}
 use Rattle.life_intervals.specs.Keys.{key_in_cohort}
 use Rattle.life_intervals.specs.Rows.{Row, index_in_cohort}
 use Rattle.cohort_sizes.proofs.CohortLemmas.{birth-first_ordinal, cohort-within}
-use Rattle.row_lines.specs.CohortLines.{AreFieldsOf, LinesOf, asked_alone, asked_by, asked_for, key_for, layout_for, ordinal_of, row_changed, size_for, text_in_table, values_at}
+use Rattle.life_intervals.proofs.AcceptedLemmas.{length-tables}
+use Rattle.row_lines.specs.CohortLines.{AreFieldsOf, LinesOf, asked_alone, asked_by, asked_for, key_for, layout_for, ordinal_of, row_changed, size_for, text_in_table, unless_known, values_at}
 use Rattle.row_lines.specs.Lines.{field_in_table}
 use Rattle.row_lines.proofs.FieldLemmas.{in_table-key, in_table-own}
 
@@ -30,6 +35,12 @@ pub AreFieldsOf-view : (kept lines : LinesOf) (columns : List ReadyColumn) (firs
 AreFieldsOf-view kept lines columns first same known = subst (λ (of : LinesOf). AreFieldsOf of columns first) same known
 
 -- ---- columns
+
+-- the column at a place is of its kind
+pub column_here : (lines : LinesOf) (columns : List ReadyColumn) (first : ℕ) → AreFieldsOf lines columns first → (place : ℕ) (kind : KindLayout) → place < length (layout_for lines).columns →
+    (column_at (layout_for lines).columns place).kind ≡ kind → IsColumnOf (layout_of lines.plan) lines.table place kind
+column_here lines columns first known place kind within is =
+    record { below = omega (arith, known.table, length-tables lines.plan); within = omega (arith, within, known.limits.column_limit); kind_is = is }
 
 -- as many columns as the schema has
 pub length-columns : (lines : LinesOf) (columns : List ReadyColumn) → columns ≡ ready_columns (layout_of lines.plan) lines.table → length (layout_for lines).columns ≡ length columns
@@ -51,18 +62,36 @@ pub key_from_ready : (delimiter : ℕ) (kind : KindLayout) → ready_kind delimi
 key_from_ready delimiter key_kind is = refl
 key_from_ready delimiter _ is = cc
 
-pub own_from_ready : (delimiter : ℕ) (kind : KindLayout) → is_lookup_kind kind ≡ false → (ready_kind delimiter kind ≡ Key → ⊥) →
+-- which is made of other columns' days or numbers
+abbrev pub is_derived : KindLayout → Bool
+is_derived (after_kind of lo hi) = true
+is_derived (sum_kind of) = true
+is_derived (product_kind of) = true
+is_derived _ = false
+
+-- as a column is ready
+pub derived_from_ready : (delimiter : ℕ) (kind : KindLayout) → ((after : ReadyAfter) → ready_kind delimiter kind ≡ After after → ⊥) → ((of : List ℕ) → ready_kind delimiter kind ≡ Sum of → ⊥) →
+    ((of : List ℕ) → ready_kind delimiter kind ≡ Product of → ⊥) → is_derived kind ≡ false
+derived_from_ready delimiter (after_kind of lo hi) no_after no_sum no_product = absurd (no_after _ refl)
+derived_from_ready delimiter (sum_kind of) no_after no_sum no_product = absurd (no_sum _ refl)
+derived_from_ready delimiter (product_kind of) no_after no_sum no_product = absurd (no_product _ refl)
+derived_from_ready delimiter _ no_after no_sum no_product = refl
+
+pub own_from_ready : (delimiter : ℕ) (kind : KindLayout) → is_lookup_kind kind ≡ false → is_derived kind ≡ false → (ready_kind delimiter kind ≡ Key → ⊥) →
     ((parts : List ReadyPart) → ready_kind delimiter kind ≡ Template parts → ⊥) → ((reference : ReadyReference) → ready_kind delimiter kind ≡ Reference reference → ⊥) → is_own kind ≡ true
-own_from_ready delimiter key_kind no_lookup no_key no_template no_reference = absurd (no_key refl)
-own_from_ready delimiter born_kind no_lookup no_key no_template no_reference = refl
-own_from_ready delimiter changed_kind no_lookup no_key no_template no_reference = refl
-own_from_ready delimiter (leaf_kind leaf) no_lookup no_key no_template no_reference = refl
-own_from_ready delimiter (template_kind parts) no_lookup no_key no_template no_reference = absurd (no_template _ refl)
-own_from_ready delimiter (case_kind on branches) no_lookup no_key no_template no_reference = refl
-own_from_ready delimiter (reference_kind parent window spread nulls drawn) no_lookup no_key no_template no_reference = absurd (no_reference _ refl)
-own_from_ready delimiter (list_kind words) no_lookup no_key no_template no_reference = refl
-own_from_ready delimiter (unit_date_kind changed start step) no_lookup no_key no_template no_reference = refl
-own_from_ready delimiter _ no_lookup no_key no_template no_reference = cc
+own_from_ready delimiter (after_kind of lo hi) no_lookup no_derived no_key no_template no_reference = absurd (cc)
+own_from_ready delimiter (sum_kind of) no_lookup no_derived no_key no_template no_reference = absurd (cc)
+own_from_ready delimiter (product_kind of) no_lookup no_derived no_key no_template no_reference = absurd (cc)
+own_from_ready delimiter key_kind no_lookup no_derived no_key no_template no_reference = absurd (no_key refl)
+own_from_ready delimiter born_kind no_lookup no_derived no_key no_template no_reference = refl
+own_from_ready delimiter changed_kind no_lookup no_derived no_key no_template no_reference = refl
+own_from_ready delimiter (leaf_kind leaf) no_lookup no_derived no_key no_template no_reference = refl
+own_from_ready delimiter (template_kind parts) no_lookup no_derived no_key no_template no_reference = absurd (no_template _ refl)
+own_from_ready delimiter (case_kind on branches) no_lookup no_derived no_key no_template no_reference = refl
+own_from_ready delimiter (reference_kind parent window spread nulls drawn) no_lookup no_derived no_key no_template no_reference = absurd (no_reference _ refl)
+own_from_ready delimiter (list_kind words) no_lookup no_derived no_key no_template no_reference = refl
+own_from_ready delimiter (unit_date_kind changed start step) no_lookup no_derived no_key no_template no_reference = refl
+own_from_ready delimiter _ no_lookup no_derived no_key no_template no_reference = cc
 
 -- a key is never null
 pub key_never_null : (columns : List ColumnLayout) (place : ℕ) → (column_at columns 0).null ≡ 0 →
@@ -98,17 +127,26 @@ held_in_table lines index changed place = field_in_table (generator_of lines.pla
 -- what a key takes, and how it is written
 pub size-key : (lines : LinesOf) (place : ℕ) → (column_at (layout_for lines).columns place).kind ≡ key_kind → size_for lines place ≡ 20
 size-key lines place is =
-    ap (λ (kind : KindLayout). (bounds_of (layout_of lines.plan).delimiter (layout_of lines.plan).tables (layout_for lines) kind).size) is
+    ap (size_of (layout_of lines.plan).delimiter (layout_of lines.plan).tables (layout_for lines).columns) is
 
 -- how many permutations: none where it is known
-pub asked-key : (known : Bool) (lines : LinesOf) (place : ℕ) → (column_at (layout_for lines).columns place).kind ≡ key_kind →
-    asked_alone known (layout_of lines.plan).delimiter (layout_of lines.plan).tables (layout_for lines) (column_at (layout_for lines).columns place).kind
-    ≡ (if known then 0 else one_if (layout_for lines).key.scramble)
-asked-key known lines place is = ap (asked_alone known (layout_of lines.plan).delimiter (layout_of lines.plan).tables (layout_for lines)) is
+pub cost-key : (lines : LinesOf) (place : ℕ) → IsColumnOf (layout_of lines.plan) lines.table place key_kind → field_cost (layout_of lines.plan) lines.table place ≡ one_if (layout_for lines).key.scramble
+cost-key lines place of = ap (λ (facts : ColumnFacts). facts.cost) (field_facts-kind (layout_of lines.plan) lines.table place key_kind of)
 
-pub asked_by-key : (known : Bool) (lines : LinesOf) (place : ℕ) → (column_at (layout_for lines).columns place).kind ≡ key_kind →
+pub asked-key : (known : Bool) (lines : LinesOf) (place : ℕ) → IsColumnOf (layout_of lines.plan) lines.table place key_kind →
+    asked_alone known (layout_of lines.plan) lines.table place ≡ (if known then 0 else one_if (layout_for lines).key.scramble)
+asked-key known lines place of =
+    ap (λ (kind : KindLayout). unless_known kind known (null_cost_of (lineages (layout_of lines.plan).tables) kind + field_cost (layout_of lines.plan) lines.table place)) of.kind_is
+    ∙ by_known known (field_cost (layout_of lines.plan) lines.table place) (cost-key lines place of)
+  where
+    by_known : (known : Bool) (cost : ℕ) → cost ≡ one_if (layout_for lines).key.scramble → unless_known key_kind known (0 + cost) ≡ (if known then 0 else one_if (layout_for lines).key.scramble)
+    by_known true cost is = refl
+    by_known false cost is = zero-add cost ∙ is
+
+pub asked_by-key : (known : Bool) (lines : LinesOf) (place : ℕ) → IsColumnOf (layout_of lines.plan) lines.table place key_kind →
     asked_for known lines place ≡ (if known then 0 else one_if (layout_for lines).key.scramble)
-asked_by-key known lines place is = ap (asked_by known (layout_of lines.plan).delimiter (layout_of lines.plan).tables (layout_for lines)) is
+asked_by-key known lines place of =
+    ap (asked_by known (layout_of lines.plan) lines.table place) of.kind_is ∙ asked-key known lines place of
 
 pub held-key : (lines : LinesOf) (place index changed key : ℕ) → (column_at (layout_for lines).columns place).kind ≡ key_kind →
     (column_at (layout_for lines).columns place).null ≡ 0 → lines.born ≤ lines.unit →

@@ -7,7 +7,7 @@ use Rattle.std.specs.Option.{option_map}
 use Rattle.line_pages.specs.Padding.{padded}
 use Rattle.row_text.specs.Fields.{field_text}
 use Rattle.cohort_sizes.specs.Births.{born_count}
-use Rattle.schema_plan.specs.Layout.{ColumnLayout, KindLayout, LeafLayout, PartLayout, born_kind, case_kind, changed_kind, cited_part, column_at, key_kind, leaf_kind, lookup_kind, list_kind, unit_date_kind, reference_kind, table_at, template_kind}
+use Rattle.schema_plan.specs.Layout.{ColumnLayout, KindLayout, LeafLayout, PartLayout, born_kind, case_kind, changed_kind, cited_part, column_at, key_kind, leaf_kind, lookup_kind, list_kind, unit_date_kind, after_kind, sum_kind, product_kind, reference_kind, table_at, template_kind}
 use Rattle.schema_plan.specs.Limits.{is_cited, is_lookup_kind}
 use Rattle.dictionaries.specs.WordList.{WordList}
 use Rattle.draw_values.specs.Dates.{date_text}
@@ -16,7 +16,8 @@ use Rattle.life_intervals.specs.Generator.{Generator}
 use Rattle.life_intervals.specs.Intervals.{row_at}
 use Rattle.life_intervals.specs.Keys.{key_in_cohort, key_of}
 use Rattle.life_intervals.specs.Rows.{Row, index_in_cohort}
-use Rattle.row_lines.specs.Lines.{at_row, draws_of, field, field_alone, field_in_table, key_line_of, part_text, value, value_alone, value_in_table}
+use Rattle.row_lines.specs.Lines.{field, field_alone, field_in_table, key_line_of, part_text, value, value_alone, value_in_table}
+use Rattle.row_lines.specs.RowViews.{at_row, draws_of}
 use Rattle.row_lines.proofs.LineLemmas.{key_of-by}
 
 -- a field of a column that is never null
@@ -48,6 +49,9 @@ value-in_table generator unit place column row (case_kind on branches) no_lookup
 value-in_table generator unit place column row (reference_kind parent window spread nulls drawn) no_lookup = refl
 value-in_table generator unit place column row (list_kind words) no_lookup = refl
 value-in_table generator unit place column row (unit_date_kind changed start step) no_lookup = refl
+value-in_table generator unit place column row (after_kind of lo hi) no_lookup = refl
+value-in_table generator unit place column row (sum_kind of) no_lookup = refl
+value-in_table generator unit place column row (product_kind of) no_lookup = refl
 value-in_table generator unit place column row _ no_lookup = cc
 
 pub field-in_table : (generator : Generator) (unit place column : ℕ) (row : Row) → is_lookup_kind (column_at (table_at generator.tables place).columns column).kind ≡ false →
@@ -99,6 +103,9 @@ value-cited generator place column row (leaf_kind leaf) cited = refl
 value-cited generator place column row (reference_kind parent window spread nulls drawn) cited = refl
 value-cited generator place column row (list_kind words) cited = refl
 value-cited generator place column row (unit_date_kind changed start step) cited = refl
+value-cited generator place column row (after_kind of lo hi) cited = refl
+value-cited generator place column row (sum_kind of) cited = refl
+value-cited generator place column row (product_kind of) cited = refl
 value-cited generator place column row _ cited = cc
 
 pub in_table-cited : (generator : Generator) (place column : ℕ) (row : Row) → is_cited (column_at (table_at generator.tables place).columns column).kind ≡ true →
@@ -118,6 +125,9 @@ no_lookup-cited (case_kind on branches) cited = refl
 no_lookup-cited (reference_kind parent window spread nulls drawn) cited = refl
 no_lookup-cited (list_kind words) cited = refl
 no_lookup-cited (unit_date_kind changed start step) cited = refl
+no_lookup-cited (after_kind of lo hi) cited = refl
+no_lookup-cited (sum_kind of) cited = refl
+no_lookup-cited (product_kind of) cited = refl
 
 field-cited : (generator : Generator) (unit place column : ℕ) (row : Row) → is_cited (column_at (table_at generator.tables place).columns column).kind ≡ true →
     field generator unit place row column ≡ field_alone generator place row column

@@ -9,14 +9,17 @@ pub mod CohortFieldLemmas
 pub mod PaddedLemmas
 pub mod PartLemmas
 mod StillLemmas
+mod TotalLemmas
 mod LookupLemmas
+mod DerivedLemmas
+mod RowFormLemmas
 mod RestedLemmas
 mod LookedUpLemmas
 pub mod RestedLineLemmas
 mod ReportLemmas
 mod KeptLemmas
 mod PieceLemmas
-mod RunListLemmas
+pub mod RunListLemmas
 pub mod RunTextLemmas
 pub mod RunFieldLemmas
 mod RunPieceLemmas

@@ -4,7 +4,7 @@ use Rattle.std.specs.Option.{option_and_then}
 use Rattle.std.proofs.lemmas.Bool.{false≢true}
 use Rattle.cohort_sizes.specs.Births.{Births, birth, born_count}
 use Rattle.schema_plan.specs.Dictionaries.{Project}
-use Rattle.schema_plan.specs.Layout.{KindLayout, born_kind, case_kind, changed_kind, column_at, key_kind, leaf_kind, lookup_kind, list_kind, unit_date_kind, no_table, reference_kind, template_kind}
+use Rattle.schema_plan.specs.Layout.{after_kind, product_kind, sum_kind, KindLayout, born_kind, case_kind, changed_kind, column_at, key_kind, leaf_kind, lookup_kind, list_kind, unit_date_kind, no_table, reference_kind, template_kind}
 use Rattle.schema_plan.specs.Limits.{IsCascadeTo, IsInLimits, IsLookup, IsStillColumn, is_lookup_kind}
 use Rattle.schema_plan.specs.References.{IsReferenceInLimits, Reference, reference_at, reference_of}
 use Rattle.life_intervals.specs.Generator.{Generator, generator_of, last_unit, table_of}
@@ -34,6 +34,9 @@ lookup-parts (case_kind on branches) is = absurd (false≢true is)
 lookup-parts (reference_kind parent window spread nulls drawn) is = absurd (false≢true is)
 lookup-parts (list_kind words) is = absurd (false≢true is)
 lookup-parts (unit_date_kind changed start step) is = absurd (false≢true is)
+lookup-parts (after_kind of lo hi) is = absurd (false≢true is)
+lookup-parts (sum_kind of) is = absurd (false≢true is)
+lookup-parts (product_kind of) is = absurd (false≢true is)
 
 -- a reference to a table, with whose row its own is deleted
 cascade-parts : (column parent : ℕ) (kind : KindLayout) → IsCascadeTo parent kind →
@@ -82,7 +85,7 @@ module _ (plan : Project) (limits : IsInLimits plan) where
       IsStillColumn (table_of plan place) column →
       field_in_table generator place (row_at generator place (suc unit) ordinal) column ≡ field_in_table generator place (row_at generator place unit ordinal) column
   still-next place below unit ordinal born column still =
-      still_field generator place (row_at generator place unit ordinal) (row_at generator place (suc unit) ordinal) units (limits.tables place no_table (place-below plan place below)) refl
+      still_field generator place (row_at generator place unit ordinal) (row_at generator place (suc unit) ordinal) units (limits.tables place no_table (place-below plan place below)) (λ at inside. limits.lookups place at below inside) refl
       (birth-later (births_of place) unit (suc unit) ordinal born (omega arith))
       (λ at reference is cascades.
       parent_of_row-by (table_of plan place) (row_at generator place (suc unit) ordinal) (held_parent generator place (suc unit) ordinal) at reference (parents-held_parent generator place (suc unit) ordinal) is

@@ -4,15 +4,19 @@ use Rattle.std.specs.Prelude.{IfSome}
 use Rattle.std.specs.Option.{option_and_then}
 use Rattle.row_text.specs.Fields.{field_text}
 use Rattle.cohort_sizes.specs.Births.{Births, birth, born_count, cohort_size}
+use Rattle.schema_plan.specs.declared.ready.ReadyKind.{ReadyKind}
 use Rattle.schema_plan.specs.declared.ready.ReadyKind.TheVariants as kind
 use Rattle.schema_plan.specs.declared.ready.ReadyLookup.{ReadyLookup}
 use Rattle.schema_plan.specs.declared.ready.ReadyReference.{ReadyReference}
-use Rattle.schema_plan.specs.FieldBounds.{bounds_at, bounds_in_table, bounds_of, choice_cost_of}
-use Rattle.schema_plan.specs.Layout.{KindLayout, TableLayout, born_kind, case_kind, changed_kind, column_at, key_kind, layout_of, leaf_kind, lookup_kind, list_kind, unit_date_kind, reference_kind, table_at, template_kind}
+use Rattle.schema_plan.specs.ColumnFacts.{field_cost}
+use Rattle.schema_plan.specs.FieldCosts.{choice_cost_of}
+use Rattle.schema_plan.specs.FieldSizes.{size_at, size_in_table, size_of}
+use Rattle.schema_plan.specs.Layout.{ColumnLayout, KindLayout, TableLayout, born_kind, case_kind, changed_kind, column_at, key_kind, layout_of, leaf_kind, lookup_kind, list_kind, no_table, unit_date_kind, after_kind, sum_kind, product_kind, reference_kind, table_at, template_kind}
 use Rattle.schema_plan.specs.Limits.{IsCascadeTo, IsInLimits, IsLookup, IsLookupInLimits, IsStillColumn, IsTableInLimits, is_lookup_kind, is_moving_kind}
 use Rattle.schema_plan.specs.Lineage.{choice_cost, lineages}
 use Rattle.schema_plan.specs.Ready.{ready_kind, ready_reference}
 use Rattle.schema_plan.specs.References.{Reference, reference_at}
+use Rattle.schema_plan.proofs.FieldFactsLemmas.{cost-lookup}
 use Rattle.draw_values.specs.CohortValues.{ValuesOf, is_null_for}
 use Rattle.draw_values.specs.Values.{is_null, unless_null}
 use Rattle.life_intervals.specs.CohortParents.{IsReferenceOf, parent_in, reference_by}
@@ -21,16 +25,18 @@ use Rattle.life_intervals.specs.Intervals.{held_parent, is_after, is_live, loss_
 use Rattle.life_intervals.specs.Rows.{Row}
 use Rattle.life_intervals.specs.Simulation.{holds_row, rows_at}
 use Rattle.life_intervals.specs.Sound.{AreSound}
-use Rattle.life_intervals.proofs.AcceptedLemmas.{AreSound-accepted, length-tables, row_at-changed}
+use Rattle.life_intervals.proofs.AcceptedLemmas.{AreSound-accepted, length-tables, place-below, row_at-changed}
+use Rattle.life_intervals.proofs.CohortParentLemmas.{limits_of}
 use Rattle.cohort_sizes.proofs.CohortLemmas.{birth-first_ordinal, birth-le, born_count-le, cohort-within}
 use Rattle.life_intervals.proofs.HeldParentLemmas.{parents-held}
 use Rattle.life_intervals.proofs.LifeLemmas.{parent_of-born}
 use Rattle.life_intervals.proofs.LiveLemmas.{holds_row-live}
 use Rattle.life_intervals.proofs.ReferenceLemmas.{at_column, reference_at-within}
 use Rattle.row_lines.specs.CohortLines.{LinesOf, asked_by, asked_for, change_for, is_live_for, layout_for, ordinal_of, parent_for, row_changed, size_for, text_in_cohort, text_in_table, values_at}
-use Rattle.row_lines.specs.Lines.{draws_of, field, field_in_table, held_row, looked_up, value}
+use Rattle.row_lines.specs.Lines.{field, field_in_table, held_row, looked_up, value}
+use Rattle.row_lines.specs.RowViews.{draws_of}
 use Rattle.row_lines.specs.Lookups.{IsLookupOf, text_held}
-use Rattle.row_lines.proofs.CohortLineLemmas.{asked_by-le}
+use Rattle.row_lines.proofs.CohortLineLemmas.{asked_for-le}
 use Rattle.row_lines.proofs.FieldLemmas.{field-in_table}
 use Rattle.row_lines.proofs.HeldRowLemmas.{held_row-live}
 use Rattle.row_lines.proofs.NullCostLemmas.{null_cost-still}
@@ -42,31 +48,37 @@ use Rattle.row_lines.proofs.StillLemmas.{still_field-changed, still_parts}
 -- ---- what fields take
 
 -- but for lookups no field takes from another table
-pub bounds_of-in_table : (delimiter : ℕ) (tables : List TableLayout) (table : TableLayout) (kind : KindLayout) → is_lookup_kind kind ≡ false →
-    bounds_of delimiter tables table kind ≡ bounds_in_table delimiter tables table kind
-bounds_of-in_table delimiter tables table key_kind no_lookup = refl
-bounds_of-in_table delimiter tables table born_kind no_lookup = refl
-bounds_of-in_table delimiter tables table changed_kind no_lookup = refl
-bounds_of-in_table delimiter tables table (leaf_kind leaf) no_lookup = refl
-bounds_of-in_table delimiter tables table (template_kind parts) no_lookup = refl
-bounds_of-in_table delimiter tables table (case_kind on branches) no_lookup = refl
-bounds_of-in_table delimiter tables table (reference_kind parent window spread nulls drawn) no_lookup = refl
-bounds_of-in_table delimiter tables table (list_kind words) no_lookup = refl
-bounds_of-in_table delimiter tables table (unit_date_kind changed start step) no_lookup = refl
-bounds_of-in_table delimiter tables table _ no_lookup = cc
+pub size_of-in_table : (delimiter : ℕ) (tables : List TableLayout) (columns : List ColumnLayout) (kind : KindLayout) → is_lookup_kind kind ≡ false →
+    size_of delimiter tables columns kind ≡ size_in_table delimiter columns kind
+size_of-in_table delimiter tables columns key_kind no_lookup = refl
+size_of-in_table delimiter tables columns born_kind no_lookup = refl
+size_of-in_table delimiter tables columns changed_kind no_lookup = refl
+size_of-in_table delimiter tables columns (leaf_kind leaf) no_lookup = refl
+size_of-in_table delimiter tables columns (template_kind parts) no_lookup = refl
+size_of-in_table delimiter tables columns (case_kind on branches) no_lookup = refl
+size_of-in_table delimiter tables columns (reference_kind parent window spread nulls drawn) no_lookup = refl
+size_of-in_table delimiter tables columns (list_kind words) no_lookup = refl
+size_of-in_table delimiter tables columns (unit_date_kind changed start step) no_lookup = refl
+size_of-in_table delimiter tables columns (after_kind of lo hi) no_lookup = refl
+size_of-in_table delimiter tables columns (sum_kind of) no_lookup = refl
+size_of-in_table delimiter tables columns (product_kind of) no_lookup = refl
+size_of-in_table delimiter tables columns _ no_lookup = cc
 
 -- each has room for a null one
-pub room_for_null : (delimiter : ℕ) (tables : List TableLayout) (table : TableLayout) (kind : KindLayout) → 2 ≤ (bounds_in_table delimiter tables table kind).size
-room_for_null delimiter tables table key_kind = omega arith
-room_for_null delimiter tables table born_kind = omega arith
-room_for_null delimiter tables table changed_kind = omega arith
-room_for_null delimiter tables table (leaf_kind leaf) = omega arith
-room_for_null delimiter tables table (template_kind parts) = omega arith
-room_for_null delimiter tables table (case_kind on branches) = omega arith
-room_for_null delimiter tables table (reference_kind parent window spread nulls drawn) = omega arith
-room_for_null delimiter tables table (lookup_kind via parent name) = omega arith
-room_for_null delimiter tables table (list_kind words) = omega arith
-room_for_null delimiter tables table (unit_date_kind changed start step) = omega arith
+pub room_for_null : (delimiter : ℕ) (columns : List ColumnLayout) (kind : KindLayout) → 2 ≤ size_in_table delimiter columns kind
+room_for_null delimiter columns key_kind = omega arith
+room_for_null delimiter columns born_kind = omega arith
+room_for_null delimiter columns changed_kind = omega arith
+room_for_null delimiter columns (leaf_kind leaf) = omega arith
+room_for_null delimiter columns (template_kind parts) = omega arith
+room_for_null delimiter columns (case_kind on branches) = omega arith
+room_for_null delimiter columns (reference_kind parent window spread nulls drawn) = omega arith
+room_for_null delimiter columns (lookup_kind via parent name) = omega arith
+room_for_null delimiter columns (list_kind words) = omega arith
+room_for_null delimiter columns (unit_date_kind changed start step) = omega arith
+room_for_null delimiter columns (after_kind of lo hi) = omega arith
+room_for_null delimiter columns (sum_kind of) = omega arith
+room_for_null delimiter columns (product_kind of) = omega arith
 
 -- ---- a column that is ready as a lookup
 
@@ -99,6 +111,10 @@ reference_cascades delimiter place (reference_kind parent window spread false dr
     sym (ap (λ (r : ReadyReference). r.nulls) same)
 reference_cascades delimiter place _ ready is held = absurd is
 
+-- one kind is ready as one reference
+pub same_ready : {held : ReadyKind} (one other : ReadyReference) → held ≡ kind.Reference one → held ≡ kind.Reference other → one ≡ other
+same_ready one other p q = cc
+
 -- and what chooses its parent takes what the schema counts for its column
 pub choice_cost-ready : (delimiter : ℕ) (held : KindLayout) (ready : ReadyReference) → ready_kind delimiter held ≡ kind.Reference ready → choice_cost_of held ≡ choice_cost ready.drawn
 choice_cost-ready delimiter (reference_kind parent window spread nulls drawn) ready is =
@@ -120,23 +136,41 @@ module _ (lines : LinesOf) (limits : IsInLimits lines.plan) (table : lines.table
   pub looks_up_still : IsStillColumn (table_of lines.plan lookup.parent) lookup.column
   looks_up_still = is_lookup.looked_up
 
+  -- in an earlier table
+  pub looks_up_earlier : lookup.parent < lines.table
+  looks_up_earlier =
+      let is = reference_ready (layout_of lines.plan).delimiter lookup.parent (column_at (layout_for lines).columns lookup.via).kind is_lookup.reference in
+      subst (λ (place : ℕ). place < lines.table) (reference_to (layout_of lines.plan).delimiter lookup.parent (column_at (layout_for lines).columns lookup.via).kind is.0 is_lookup.reference is.1)
+      (limits_of lines.plan limits lines.table lookup.via is.0 table (record { within = omega (arith, is_lookup.earlier, of.within); is = is.1 })).earlier
+
   -- what it takes
-  pub size-lookup : size_for lines column ≡ (bounds_at (layout_of lines.plan).delimiter (layout_of lines.plan).tables (table_of lines.plan lookup.parent) lookup.column).size
-  size-lookup = ap (λ (held : KindLayout). (bounds_of (layout_of lines.plan).delimiter (layout_of lines.plan).tables (layout_for lines) held).size) kind_of_lookup
+  pub size-lookup : size_for lines column ≡ size_at (layout_of lines.plan).delimiter (table_of lines.plan lookup.parent).columns lookup.column
+  size-lookup = ap (size_of (layout_of lines.plan).delimiter (layout_of lines.plan).tables (layout_for lines).columns) kind_of_lookup
 
   pub room-lookup : 2 ≤ size_for lines column
   room-lookup = omega (
     arith,
     size-lookup,
-    room_for_null (layout_of lines.plan).delimiter (layout_of lines.plan).tables (table_of lines.plan lookup.parent) (column_at (table_of lines.plan lookup.parent).columns lookup.column).kind,
+    room_for_null (layout_of lines.plan).delimiter (table_of lines.plan lookup.parent).columns (column_at (table_of lines.plan lookup.parent).columns lookup.column).kind,
   )
+
+  pub cost_of_lookup : field_cost (layout_of lines.plan) lines.table column ≡ choice_cost_of (column_at (layout_for lines).columns lookup.via).kind + field_cost (layout_of lines.plan) lookup.parent lookup.column
+  cost_of_lookup =
+      cost-lookup (layout_of lines.plan) lines.table column lookup.via lookup.parent lookup.column
+      (record {
+        below = omega (arith, table, length-tables lines.plan);
+        within = omega (arith, of.within, (limits.tables lines.table no_table (place-below lines.plan lines.table table)).column_limit);
+        kind_is = kind_of_lookup;
+      })
+      looks_up_earlier
 
   pub asked-lookup : (reference : ReadyReference) → IsReferenceOf lines.plan lines.table lookup.via reference →
       asked_for true lines column
-      ≡ choice_cost reference.drawn + (bounds_at (layout_of lines.plan).delimiter (layout_of lines.plan).tables (table_of lines.plan lookup.parent) lookup.column).permutations
+      ≡ choice_cost reference.drawn + field_cost (layout_of lines.plan) lookup.parent lookup.column
   asked-lookup reference refers =
-      let shown : ℕ = (bounds_at (layout_of lines.plan).delimiter (layout_of lines.plan).tables (table_of lines.plan lookup.parent) lookup.column).permutations in
-      ap (asked_by true (layout_of lines.plan).delimiter (layout_of lines.plan).tables (layout_for lines)) kind_of_lookup
+      let shown : ℕ = field_cost (layout_of lines.plan) lookup.parent lookup.column in
+      ap (asked_by true (layout_of lines.plan) lines.table column) kind_of_lookup
+      ∙ cost_of_lookup
       ∙ ap (λ (chosen : ℕ). chosen + shown) (choice_cost-ready (layout_of lines.plan).delimiter (column_at (layout_for lines).columns lookup.via).kind reference refers.is)
 
 -- ---- what it shows
@@ -209,7 +243,7 @@ lookup-field units generator sound place below unit within ordinal born alive co
     each_held (Some parent) = sym (field-in_table generator unit reference.parent shown (row_at generator reference.parent unit parent) no_lookup)
 
 -- the parent of a row of a cohort, by its ordinal and by its index
-parent_of-for : (lines : LinesOf) (index : ℕ) (reference : Reference) → lines.born ≤ lines.unit → index < cohort_size (layout_for lines).births lines.born →
+pub parent_of-for : (lines : LinesOf) (index : ℕ) (reference : Reference) → lines.born ≤ lines.unit → index < cohort_size (layout_for lines).births lines.born →
     parent_of (generator_of lines.plan) lines.table lines.unit (ordinal_of lines index) reference ≡ parent_for lines index reference
 parent_of-for lines index reference early inside =
     let births : Births = (layout_for lines).births in
@@ -294,28 +328,27 @@ text-null lines column index null_is =
     ap (λ (b : Bool). field_text (layout_of lines.plan).delimiter (if b then None else value generator lines.unit lines.table row column (column_at (layout_for lines).columns column).kind)) null_is
 
 -- what a row holds in a column that doesn't move, by any unit of its change
-pub text-still : (lines : LinesOf) (index changed ordinal column : ℕ) → IsTableInLimits (last_unit lines.plan) (layout_for lines) → ordinal_of lines index ≡ ordinal → IsStillColumn (layout_for lines) column →
+pub text-still : (lines : LinesOf) (index changed ordinal column : ℕ) → IsInLimits lines.plan → lines.table < length lines.plan.schema.tables → IsTableInLimits (last_unit lines.plan) (layout_for lines) → ordinal_of lines index ≡ ordinal → IsStillColumn (layout_for lines) column →
     text_in_table lines index changed column ≡ text_held lines.plan lines.table lines.unit ordinal column
-text-still lines index changed ordinal column limits ordinal_is still =
+text-still lines index changed ordinal column sound table limits ordinal_is still =
     let generator : Generator = generator_of lines.plan in
     ap (field_text (layout_of lines.plan).delimiter)
     (ap (λ (j : ℕ). field_in_table generator lines.table (record (row_at generator lines.table lines.unit j) { changed = changed }) column) ordinal_is
-    ∙ still_field-changed generator lines.table (row_at generator lines.table lines.unit ordinal) changed (last_unit lines.plan) limits column still.within still.still)
+    ∙ still_field-changed generator lines.table (row_at generator lines.table lines.unit ordinal) changed (last_unit lines.plan) limits (λ place within. sound.lookups lines.table place table within) column still.within still.still)
 
 -- what it takes
 pub size-still : (lines : LinesOf) (column : ℕ) → IsStillColumn (layout_for lines) column →
-    size_for lines column ≡ (bounds_at (layout_of lines.plan).delimiter (layout_of lines.plan).tables (layout_for lines) column).size
+    size_for lines column ≡ size_at (layout_of lines.plan).delimiter (layout_for lines).columns column
 size-still lines column still =
-    ap (λ bounds. bounds.size) (bounds_of-in_table (layout_of lines.plan).delimiter (layout_of lines.plan).tables (layout_for lines) (column_at (layout_for lines).columns column).kind still.no_lookup)
+    size_of-in_table (layout_of lines.plan).delimiter (layout_of lines.plan).tables (layout_for lines).columns (column_at (layout_for lines).columns column).kind still.no_lookup
 
-pub asked-still : (lines : LinesOf) (column : ℕ) → IsTableInLimits (last_unit lines.plan) (layout_for lines) → IsStillColumn (layout_for lines) column →
-    asked_for false lines column ≤ (bounds_at (layout_of lines.plan).delimiter (layout_of lines.plan).tables (layout_for lines) column).permutations
-asked-still lines column limits still =
+pub asked-still : (lines : LinesOf) (column : ℕ) → lines.table < length lines.plan.schema.tables → IsTableInLimits (last_unit lines.plan) (layout_for lines) → IsStillColumn (layout_for lines) column →
+    asked_for false lines column ≤ field_cost (layout_of lines.plan) lines.table column
+asked-still lines column table limits still =
     let kind : KindLayout = (column_at (layout_for lines).columns column).kind in
     let parts = still_parts (column_at (layout_for lines).columns column).changes (is_moving_kind kind) still.still in
     omega (
       arith,
       null_cost-still (lineages (layout_of lines.plan).tables) (layout_for lines).columns kind parts.1 (limits.still column still.within parts.0),
-      asked_by-le false (layout_of lines.plan).delimiter (layout_of lines.plan).tables (layout_for lines) kind,
-      ap (λ bounds. bounds.permutations) (bounds_of-in_table (layout_of lines.plan).delimiter (layout_of lines.plan).tables (layout_for lines) kind still.no_lookup),
+      asked_for-le false lines column table limits still.within,
     )

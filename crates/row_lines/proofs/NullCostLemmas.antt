@@ -6,7 +6,7 @@ use Rattle.std.proofs.lemmas.List.Elements.{All-head, All-tail}
 use Rattle.std.proofs.lemmas.List.Sums.{sum_by-cons}
 use Rattle.schema_plan.specs.declared.lineage.Lineage.{Lineage}
 use Rattle.schema_plan.specs.Dictionaries.{Project}
-use Rattle.schema_plan.specs.Layout.{ColumnLayout, KindLayout, PartLayout, born_kind, case_kind, changed_kind, cited_part, column_at, key_kind, layout_of, leaf_kind, literal_part, lookup_kind, list_kind, unit_date_kind, reference_kind, table_layout, template_kind}
+use Rattle.schema_plan.specs.Layout.{ColumnLayout, KindLayout, PartLayout, born_kind, case_kind, changed_kind, cited_part, column_at, key_kind, layout_of, leaf_kind, literal_part, lookup_kind, list_kind, unit_date_kind, after_kind, sum_kind, product_kind, reference_kind, table_layout, template_kind}
 use Rattle.schema_plan.specs.Limits.{CitesStill, IsInLimits, IsStillPart, is_moving_kind}
 use Rattle.schema_plan.specs.Lineage.{endless, lineages, null_cost, null_cost_of, null_cost_of_field, null_cost_of_part}
 use Rattle.schema_plan.specs.References.{IsReferenceInLimits, reference_of}
@@ -45,6 +45,9 @@ module _ (plan : Project) (limits : IsInLimits plan) (place : ℕ) (below : plac
   of_kind (lookup_kind via parent column) earlier = refl
   of_kind (list_kind words) earlier = refl
   of_kind (unit_date_kind changed start step) earlier = refl
+  of_kind (after_kind of lo hi) earlier = refl
+  of_kind (sum_kind of) earlier = refl
+  of_kind (product_kind of) earlier = refl
 
   of_column : (column : ℕ) → null_cost_of (take place all) (column_at own column).kind ≡ null_cost_of all (column_at own column).kind
   of_column column =
@@ -69,6 +72,9 @@ module _ (plan : Project) (limits : IsInLimits plan) (place : ℕ) (below : plac
   of_field (lookup_kind via parent column) same = same
   of_field (list_kind words) same = same
   of_field (unit_date_kind changed start step) same = same
+  of_field (after_kind of lo hi) same = same
+  of_field (sum_kind of) same = same
+  of_field (product_kind of) same = same
 
   pub null_cost-fields : null_cost (layout_of plan).tables place ≡ sum_by (λ (column : ColumnLayout). null_cost_of_field all own column.kind) own
   null_cost-fields =
@@ -92,6 +98,9 @@ still-kind lineages (case_kind on branches) still = refl
 still-kind lineages (lookup_kind via parent column) still = refl
 still-kind lineages (list_kind words) still = refl
 still-kind lineages (unit_date_kind changed start step) still = refl
+still-kind lineages (after_kind of lo hi) still = refl
+still-kind lineages (sum_kind of) still = refl
+still-kind lineages (product_kind of) still = refl
 
 still-part : (lineages : List Lineage) (columns : List ColumnLayout) (part : PartLayout) → IsStillPart columns part → null_cost_of_part lineages columns part ≡ 0
 still-part lineages columns (literal_part bytes) still = refl
@@ -119,3 +128,6 @@ null_cost-still lineages columns (case_kind on branches) still cites = refl
 null_cost-still lineages columns (lookup_kind via parent column) still cites = refl
 null_cost-still lineages columns (list_kind words) still cites = refl
 null_cost-still lineages columns (unit_date_kind changed start step) still cites = refl
+null_cost-still lineages columns (after_kind of lo hi) still cites = refl
+null_cost-still lineages columns (sum_kind of) still cites = refl
+null_cost-still lineages columns (product_kind of) still cites = refl

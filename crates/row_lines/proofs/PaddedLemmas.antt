@@ -19,7 +19,8 @@ use Rattle.draw_values.specs.Values.{Draws, is_null, leaf_value, put_of, written
 use Rattle.life_intervals.specs.Generator.{Generator}
 use Rattle.life_intervals.specs.Keys.{key_of}
 use Rattle.life_intervals.specs.Rows.{Row}
-use Rattle.row_lines.specs.Lines.{draws_of, field_alone, parent_of_row, value_alone}
+use Rattle.row_lines.specs.Lines.{field_alone, value_alone}
+use Rattle.row_lines.specs.RowViews.{draws_of, parent_of_row}
 use Rattle.row_lines.specs.Parts.{written_padded}
 
 -- ---- bytes that stand for themselves

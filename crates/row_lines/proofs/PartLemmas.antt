@@ -12,8 +12,8 @@ use Rattle.schema_plan.specs.declared.ready.ReadyKind.TheVariants.{Key, Referenc
 use Rattle.schema_plan.specs.declared.ready.ReadyPart.{ReadyPart}
 use Rattle.schema_plan.specs.declared.ready.ReadyReference.{ReadyReference}
 use Rattle.cohort_sizes.specs.Births.{cohort_size}
-use Rattle.schema_plan.specs.FieldBounds.{bounds_alone, bounds_of, bounds_of_part}
-use Rattle.schema_plan.specs.Layout.{KindLayout, PartLayout, TableLayout, born_kind, changed_kind, cited_part, column_at, key_kind, layout_of, leaf_kind, list_kind, unit_date_kind, literal_part, reference_kind, template_kind}
+use Rattle.schema_plan.specs.FieldSizes.{size_alone, size_of, size_of_part}
+use Rattle.schema_plan.specs.Layout.{ColumnLayout, KindLayout, PartLayout, TableLayout, born_kind, changed_kind, cited_part, column_at, key_kind, layout_of, leaf_kind, list_kind, unit_date_kind, after_kind, sum_kind, product_kind, literal_part, reference_kind, template_kind}
 use Rattle.schema_plan.specs.Limits.{AreFilledParts, AreParts, IsFilledPart, IsKindInLimits, IsPart, is_cited}
 use Rattle.schema_plan.specs.Ready.{ready_kind, ready_part}
 use Rattle.draw_values.specs.CohortValues.{ValuesOf, is_null_for, value_for}
@@ -21,46 +21,51 @@ use Rattle.draw_values.specs.Values.{is_null, is_own, written}
 use Rattle.life_intervals.specs.Generator.{Generator, generator_of}
 use Rattle.life_intervals.specs.Rows.{Row}
 use Rattle.row_lines.specs.CohortLines.{LinesOf, asked_by, asked_by_part, asked_for, layout_for, ordinal_of, row_changed, size_for, text_in_table, values_at}
-use Rattle.row_lines.specs.Lines.{draws_of, part_text}
+use Rattle.row_lines.specs.Lines.{part_text}
+use Rattle.row_lines.specs.RowViews.{draws_of}
 use Rattle.row_lines.specs.Parts.{IsCitable, IsPartOfTemplate, cited_for, cited_size, cited_text, part_asked, part_size, written_part}
-use Rattle.row_lines.proofs.CohortFieldLemmas.{held-own, held_in_table, of_units}
+use Rattle.row_lines.proofs.CohortFieldLemmas.{held-own, held_in_table, is_derived, of_units}
 use Rattle.row_lines.proofs.FieldLemmas.{in_table-cited, in_table-template}
 use Rattle.row_lines.proofs.PaddedLemmas.{whole-plain, written-padded}
 
 -- ---- a column that is cited
 
 -- it is a key, a reference, or made of units and of draws
-pub own_from_cited : (delimiter : ℕ) (kind : KindLayout) → is_cited kind ≡ true → (ready_kind delimiter kind ≡ Key → ⊥) → ((reference : ReadyReference) → ready_kind delimiter kind ≡ Reference reference → ⊥) → is_own kind ≡ true
-own_from_cited delimiter key_kind cited no_key no_reference = absurd (no_key refl)
-own_from_cited delimiter born_kind cited no_key no_reference = refl
-own_from_cited delimiter (leaf_kind leaf) cited no_key no_reference = refl
-own_from_cited delimiter changed_kind cited no_key no_reference = refl
-own_from_cited delimiter (reference_kind parent window spread nulls drawn) cited no_key no_reference = absurd (no_reference _ refl)
-own_from_cited delimiter (list_kind words) cited no_key no_reference = refl
-own_from_cited delimiter (unit_date_kind changed start step) cited no_key no_reference = refl
-own_from_cited delimiter _ cited no_key no_reference = cc
+pub own_from_cited : (delimiter : ℕ) (kind : KindLayout) → is_cited kind ≡ true → is_derived kind ≡ false → (ready_kind delimiter kind ≡ Key → ⊥) → ((reference : ReadyReference) → ready_kind delimiter kind ≡ Reference reference → ⊥) → is_own kind ≡ true
+own_from_cited delimiter key_kind cited no_derived no_key no_reference = absurd (no_key refl)
+own_from_cited delimiter born_kind cited no_derived no_key no_reference = refl
+own_from_cited delimiter (leaf_kind leaf) cited no_derived no_key no_reference = refl
+own_from_cited delimiter changed_kind cited no_derived no_key no_reference = refl
+own_from_cited delimiter (reference_kind parent window spread nulls drawn) cited no_derived no_key no_reference = absurd (no_reference _ refl)
+own_from_cited delimiter (list_kind words) cited no_derived no_key no_reference = refl
+own_from_cited delimiter (unit_date_kind changed start step) cited no_derived no_key no_reference = refl
+own_from_cited delimiter (after_kind of lo hi) cited no_derived no_key no_reference = absurd (cc)
+own_from_cited delimiter (sum_kind of) cited no_derived no_key no_reference = absurd (cc)
+own_from_cited delimiter (product_kind of) cited no_derived no_key no_reference = absurd (cc)
+own_from_cited delimiter _ cited no_derived no_key no_reference = cc
 
 -- it takes what its own field takes
-bounds_of-cited : (delimiter : ℕ) (tables : List TableLayout) (table : TableLayout) (kind : KindLayout) → is_cited kind ≡ true →
-    bounds_of delimiter tables table kind ≡ bounds_alone delimiter tables table kind
-bounds_of-cited delimiter tables table key_kind cited = refl
-bounds_of-cited delimiter tables table born_kind cited = refl
-bounds_of-cited delimiter tables table changed_kind cited = refl
-bounds_of-cited delimiter tables table (leaf_kind leaf) cited = refl
-bounds_of-cited delimiter tables table (reference_kind parent window spread nulls drawn) cited = refl
-bounds_of-cited delimiter tables table (list_kind words) cited = refl
-bounds_of-cited delimiter tables table (unit_date_kind changed start step) cited = refl
-bounds_of-cited delimiter tables table _ cited = cc
+size_of-cited : (delimiter : ℕ) (tables : List TableLayout) (columns : List ColumnLayout) (kind : KindLayout) → is_cited kind ≡ true →
+    size_of delimiter tables columns kind ≡ size_alone delimiter kind
+size_of-cited delimiter tables columns key_kind cited = refl
+size_of-cited delimiter tables columns born_kind cited = refl
+size_of-cited delimiter tables columns changed_kind cited = refl
+size_of-cited delimiter tables columns (leaf_kind leaf) cited = refl
+size_of-cited delimiter tables columns (reference_kind parent window spread nulls drawn) cited = refl
+size_of-cited delimiter tables columns (list_kind words) cited = refl
+size_of-cited delimiter tables columns (unit_date_kind changed start step) cited = refl
+size_of-cited delimiter tables columns (after_kind of lo hi) cited = refl
+size_of-cited delimiter tables columns (sum_kind of) cited = refl
+size_of-cited delimiter tables columns (product_kind of) cited = refl
+size_of-cited delimiter tables columns _ cited = cc
 
 -- a key takes 20 bytes
 pub cited_size-key : (lines : LinesOf) (place : ℕ) → (column_at (layout_for lines).columns place).kind ≡ key_kind → cited_size lines place ≡ 20
-cited_size-key lines place is =
-    ap (λ (kind : KindLayout). (bounds_alone (layout_of lines.plan).delimiter (layout_of lines.plan).tables (layout_for lines) kind).size) is
+cited_size-key lines place is = ap (size_alone (layout_of lines.plan).delimiter) is
 
 pub size_for-cited : (lines : LinesOf) (column : ℕ) → IsCitable lines column → size_for lines column ≡ cited_size lines column
 size_for-cited lines column citable =
-    ap (λ bounds. bounds.size)
-    (bounds_of-cited (layout_of lines.plan).delimiter (layout_of lines.plan).tables (layout_for lines) (column_at (layout_for lines).columns column).kind citable.cited)
+    size_of-cited (layout_of lines.plan).delimiter (layout_of lines.plan).tables (layout_for lines).columns (column_at (layout_for lines).columns column).kind citable.cited
 
 -- and it holds what its own field holds
 pub cited_for-held : (lines : LinesOf) (index changed column : ℕ) → IsCitable lines column → cited_for lines index changed column ≡ held_in_table lines index changed column
@@ -123,13 +128,13 @@ parts-written lines index changed parts filled =
 -- it takes what the schema counts for it
 part-size : (lines : LinesOf) (part : PartLayout) →
     part_size lines (ready_part (layout_of lines.plan).delimiter part)
-    ≡ (bounds_of_part (layout_of lines.plan).delimiter (layout_of lines.plan).tables (layout_for lines) part).size
+    ≡ size_of_part (layout_of lines.plan).delimiter (layout_for lines).columns part
 part-size lines (literal_part bytes) = refl
 part-size lines (cited_part column width) = refl
 
 parts-size : (lines : LinesOf) (parts : List PartLayout) →
     sum_by (part_size lines) (map (ready_part (layout_of lines.plan).delimiter) parts)
-    ≡ sum_by (λ part. (bounds_of_part (layout_of lines.plan).delimiter (layout_of lines.plan).tables (layout_for lines) part).size) parts
+    ≡ sum_by (size_of_part (layout_of lines.plan).delimiter (layout_for lines).columns) parts
 parts-size lines parts =
     fold-map (λ all part. all + part_size lines part) (ready_part (layout_of lines.plan).delimiter) 0 parts
     ∙ ap (λ (size : PartLayout → ℕ). sum_by size parts) (fun_ext (part-size lines))
@@ -186,11 +191,11 @@ parts_citable lines column ready template within limits filled =
 -- what it takes
 pub size-template : (lines : LinesOf) (column : ℕ) (ready : List ReadyPart) → IsTemplateOf lines column ready → size_for lines column ≡ max 2 (sum_by (part_size lines) ready)
 size-template lines column ready template =
-    ap (λ (kind : KindLayout). (bounds_of (layout_of lines.plan).delimiter (layout_of lines.plan).tables (layout_for lines) kind).size) template.is
+    ap (size_of (layout_of lines.plan).delimiter (layout_of lines.plan).tables (layout_for lines).columns) template.is
     ∙ ap (λ (size : ℕ). max 2 size) (sym (parts-size lines template.parts) ∙ ap (λ (parts : List ReadyPart). sum_by (part_size lines) parts) (sym template.ready_are))
 
 -- and asks
-part-asked : (known : Bool) (lines : LinesOf) (part : PartLayout) → part_asked known lines (ready_part (layout_of lines.plan).delimiter part) ≡ asked_by_part known (layout_of lines.plan).delimiter (layout_of lines.plan).tables (layout_for lines) part
+part-asked : (known : Bool) (lines : LinesOf) (part : PartLayout) → part_asked known lines (ready_part (layout_of lines.plan).delimiter part) ≡ asked_by_part known (layout_of lines.plan) lines.table part
 part-asked known lines (literal_part bytes) = refl
 part-asked known lines (cited_part column width) = refl
 
@@ -199,7 +204,7 @@ asked-template known lines column ready template =
     ap (sum_by (part_asked known lines)) template.ready_are
     ∙ fold-map (λ all part. all + part_asked known lines part) (ready_part (layout_of lines.plan).delimiter) 0 template.parts
     ∙ ap (λ (asked : PartLayout → ℕ). sum_by asked template.parts) (fun_ext (part-asked known lines))
-    ∙ sym (ap (asked_by known (layout_of lines.plan).delimiter (layout_of lines.plan).tables (layout_for lines)) template.is)
+    ∙ sym (ap (asked_by known (layout_of lines.plan) lines.table column) template.is)
 
 -- whether a field is drawn to be null, as the values of the cohort have it
 pub null-drawn : (lines : LinesOf) (values : ValuesOf) (column index changed ordinal : ℕ) → values ≡ values_at lines changed →

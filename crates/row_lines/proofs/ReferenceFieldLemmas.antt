@@ -9,11 +9,14 @@ use Rattle.row_text.proofs.DigitLemmas.{escaped_text-decimal}
 use Rattle.cohort_sizes.specs.Births.{Births, birth, born_count, cohort_size, first_ordinal, index_at}
 use Rattle.schema_plan.specs.declared.ready.ReadyReference.{ReadyReference}
 use Rattle.schema_plan.specs.Dictionaries.{Project}
-use Rattle.schema_plan.specs.FieldBounds.{bounds_of}
+use Rattle.schema_plan.specs.ColumnFacts.{field_cost}
+use Rattle.schema_plan.specs.FieldSizes.{size_of}
 use Rattle.schema_plan.specs.Layout.{ColumnLayout, KindLayout, TableLayout, column_at, layout_of, reference_kind, table_at}
 use Rattle.schema_plan.specs.Limits.{IsInLimits, IsTableInLimits}
 use Rattle.schema_plan.specs.Lineage.{choice_cost, death_cost, lineages, null_cost_of, one_if, sure_life}
 use Rattle.schema_plan.specs.References.{Reference, reference_at, reference_of, references_of}
+use Rattle.schema_plan.specs.declared.column_facts.ColumnFacts.{ColumnFacts}
+use Rattle.schema_plan.proofs.FieldFactsLemmas.{field_facts-kind}
 use Rattle.life_intervals.specs.CohortParents.{IsReferenceOf, held_cost, loss_in, parent_cost, reference_by}
 use Rattle.life_intervals.specs.Generator.{Generator, generator_of, last_unit, table_of}
 use Rattle.life_intervals.specs.Intervals.{Known, held_parent, held_until, is_after, known_tables, loss_by, loss_of, parent_by, parent_of, row_at}
@@ -27,8 +30,9 @@ use Rattle.life_intervals.proofs.KnownLemmas.{refers-of}
 use Rattle.life_intervals.proofs.LifeLemmas.{loss_by-death, parent_of-born}
 use Rattle.life_intervals.proofs.ParentLemmas.{Refers}
 use Rattle.life_intervals.proofs.ReferenceLemmas.{at_column, reference_at-within, references_in}
-use Rattle.row_lines.specs.CohortLines.{LinesOf, asked_alone, asked_by, asked_for, layout_for, ordinal_of, held_for, held_key_for, parent_for, reference_value, row_changed, size_for, text_in_table}
-use Rattle.row_lines.specs.Lines.{draws_of, field, field_in_table, parent_of_row, value, value_in_table}
+use Rattle.row_lines.specs.CohortLines.{LinesOf, asked_alone, asked_by, asked_for, layout_for, ordinal_of, held_for, held_key_for, parent_for, reference_value, row_changed, size_for, text_in_table, unless_known}
+use Rattle.row_lines.specs.Lines.{field, field_in_table, value, value_in_table}
+use Rattle.row_lines.specs.RowViews.{draws_of, parent_of_row}
 use Rattle.row_lines.proofs.FieldLemmas.{unless_null-never}
 use Rattle.row_lines.proofs.LineLemmas.{key_of-by}
 
@@ -160,29 +164,34 @@ held_cost-null_cost : (tables : List TableLayout) (reference : Reference) (nulls
 held_cost-null_cost tables reference true is = ap (λ (b : Bool). if b then parent_cost tables reference else choice_cost reference.drawn) is ∙ add_comm (choice_cost reference.drawn) (death_cost tables reference.parent)
 held_cost-null_cost tables reference false is = ap (λ (b : Bool). if b then parent_cost tables reference else choice_cost reference.drawn) is ∙ sym (zero-add (choice_cost reference.drawn))
 
-pub asked-reference : (known : Bool) (lines : LinesOf) (column : ℕ) (ready : ReadyReference) → IsReferenceOf lines.plan lines.table column ready →
-    asked_alone known (layout_of lines.plan).delimiter (layout_of lines.plan).tables (layout_for lines) (column_at (layout_for lines).columns column).kind
+pub asked-reference : (known : Bool) (lines : LinesOf) (column : ℕ) (ready : ReadyReference) → lines.table < length lines.plan.schema.tables → IsTableInLimits (last_unit lines.plan) (layout_for lines) →
+    IsReferenceOf lines.plan lines.table column ready →
+    asked_alone known (layout_of lines.plan) lines.table column
     ≡ held_cost (layout_of lines.plan).tables (reference_by column ready) + one_if (table_of lines.plan ready.parent).key.scramble
-asked-reference known lines column ready of =
+asked-reference known lines column ready below own of =
     let tables : List TableLayout = (layout_of lines.plan).tables in
     let reference : Reference = reference_by column ready in
     let kind : KindLayout = reference_kind reference.parent reference.window reference.spread reference.nulls reference.drawn in
-    ap (asked_alone known (layout_of lines.plan).delimiter tables (layout_for lines)) (kind_is (layout_for lines) column reference (reference_here lines column ready of))
+    let is = kind_is (layout_for lines) column reference (reference_here lines column ready of) in
+    ap (λ (held : KindLayout). unless_known held known (null_cost_of (lineages tables) held + field_cost (layout_of lines.plan) lines.table column)) is
+    ∙ ap (λ (cost : ℕ). null_cost_of (lineages tables) kind + cost)
+    (ap (λ (facts : ColumnFacts). facts.cost)
+    (field_facts-kind (layout_of lines.plan) lines.table column kind
+    (record { below = omega (arith, below, length-tables lines.plan); within = omega (arith, of.within, own.column_limit); kind_is = is })))
     ∙ sum (null_cost_of (lineages tables) kind) (held_cost tables reference) (choice_cost reference.drawn) (one_if (table_of lines.plan ready.parent).key.scramble) (held_cost-null_cost tables reference reference.nulls refl)
   where
     sum : (null held choice scramble : ℕ) → held ≡ null + choice → null + (choice + scramble) ≡ held + scramble
     sum null held choice scramble is = omega arith
 
-pub asked_by-reference : (known : Bool) (lines : LinesOf) (column : ℕ) (ready : ReadyReference) → IsReferenceOf lines.plan lines.table column ready →
+pub asked_by-reference : (known : Bool) (lines : LinesOf) (column : ℕ) (ready : ReadyReference) → lines.table < length lines.plan.schema.tables → IsTableInLimits (last_unit lines.plan) (layout_for lines) → IsReferenceOf lines.plan lines.table column ready →
     asked_for known lines column ≡ held_cost (layout_of lines.plan).tables (reference_by column ready) + one_if (table_of lines.plan ready.parent).key.scramble
-asked_by-reference known lines column ready of =
-    ap (asked_by known (layout_of lines.plan).delimiter (layout_of lines.plan).tables (layout_for lines)) (kind_is (layout_for lines) column (reference_by column ready) (reference_here lines column ready of))
-    ∙ sym (ap (asked_alone known (layout_of lines.plan).delimiter (layout_of lines.plan).tables (layout_for lines)) (kind_is (layout_for lines) column (reference_by column ready) (reference_here lines column ready of)))
-    ∙ asked-reference known lines column ready of
+asked_by-reference known lines column ready below own of =
+    ap (asked_by known (layout_of lines.plan) lines.table column) (kind_is (layout_for lines) column (reference_by column ready) (reference_here lines column ready of))
+    ∙ asked-reference known lines column ready below own of
 
 pub size-reference : (lines : LinesOf) (column : ℕ) (ready : ReadyReference) → IsReferenceOf lines.plan lines.table column ready → size_for lines column ≡ 20
 size-reference lines column ready of =
-    ap (λ (kind : KindLayout). (bounds_of (layout_of lines.plan).delimiter (layout_of lines.plan).tables (layout_for lines) kind).size)
+    ap (size_of (layout_of lines.plan).delimiter (layout_of lines.plan).tables (layout_for lines).columns)
     (kind_is (layout_for lines) column (reference_by column ready) (reference_here lines column ready of))
 
 pub index_here : (lines : LinesOf) (index : ℕ) → lines.born ≤ lines.unit → index < cohort_size (layout_for lines).births lines.born → index_at (layout_for lines).births lines.unit (ordinal_of lines index) ≡ index

@@ -14,9 +14,11 @@ use Rattle.life_intervals.specs.Sound.{AreSound}
 use Rattle.life_intervals.proofs.AcceptedLemmas.{AreSound-accepted, place-below, row_at-changed}
 use Rattle.life_intervals.proofs.Ranges.{map-range_with_len_same}
 use Rattle.cohort_sizes.proofs.CohortLemmas.{birth-later}
-use Rattle.row_lines.specs.Lines.{draws_of, field, field_in_table, field_texts, value}
+use Rattle.row_lines.specs.Lines.{field, field_in_table, field_texts, value}
+use Rattle.row_lines.specs.RowViews.{draws_of}
 use Rattle.row_lines.proofs.FieldLemmas.{field-in_table}
 use Rattle.row_lines.proofs.LookedUpLemmas.{looked_up-next, lookup-parts}
+use Rattle.row_lines.proofs.RowFormLemmas.{field-form}
 use Rattle.row_lines.proofs.RestedLemmas.{IsRested, rested, rested-parents}
 
 module _ (plan : Project) (limits : IsInLimits plan) (place : ℕ) (below : place < length plan.schema.tables) (unit : ℕ)
@@ -62,7 +64,7 @@ module _ (plan : Project) (limits : IsInLimits plan) (place : ℕ) (below : plac
       ∙ ap (λ (parents : List (Option ℕ)). f (formed row.born row.changed parents)) (rested-parents units generator sound place (place-below plan place below) unit ordinal born is_rested)
 
   in_table-next : (column : ℕ) → field_in_table generator place later column ≡ field_in_table generator place row column
-  in_table-next column = by_form (λ (of : Row). field_in_table generator place of column)
+  in_table-next column = sym (field-form generator place later row.left row.wait column) ∙ by_form (λ (of : Row). field_in_table generator place of column)
 
   draws-next : (column : ℕ) → draws_of generator place later column ≡ draws_of generator place row column
   draws-next column = by_form (λ (of : Row). draws_of generator place of column)

@@ -4,7 +4,7 @@ use Rattle.std.specs.List.{range_with_len}
 use Rattle.std.proofs.lemmas.Bool.{leb-true}
 use Rattle.std.proofs.lemmas.List.{take_all}
 use Rattle.std.proofs.lemmas.List.FromFn.{length-range_with_len}
-use Rattle.std.proofs.lemmas.List.Sums.{sum_by-append, sum_by_more, sum_by_more_le}
+use Rattle.std.proofs.lemmas.List.Sums.{sum_by_more, sum_by_more_le}
 use Rattle.line_pages.specs.Pages.{Page}
 use Rattle.row_text.specs.Fields.{field_text}
 use Rattle.row_text.proofs.DigitLemmas.{escaped_text-decimal}
@@ -12,8 +12,8 @@ use Rattle.cohort_sizes.specs.Births.{LiesIn, birth, born_count}
 use Rattle.cohort_sizes.proofs.CohortLemmas.{birth-only, cohort-within}
 use Rattle.schema_plan.specs.declared.ready.ReadyReference.{ReadyReference}
 use Rattle.schema_plan.specs.Dictionaries.{Project}
-use Rattle.schema_plan.specs.Layout.{ColumnLayout, KindLayout, born_kind, case_kind, changed_kind, column_at, key_kind, layout_of, leaf_kind, lookup_kind, list_kind, unit_date_kind, no_column, reference_kind, table_at, template_kind}
-use Rattle.schema_plan.specs.FieldBounds.{bounds_of}
+use Rattle.schema_plan.specs.Layout.{ColumnLayout, KindLayout, born_kind, case_kind, changed_kind, column_at, key_kind, layout_of, leaf_kind, lookup_kind, list_kind, unit_date_kind, after_kind, sum_kind, product_kind, no_column, reference_kind, table_at, template_kind}
+use Rattle.schema_plan.specs.FieldSizes.{size_of}
 use Rattle.schema_plan.specs.Limits.{IsInLimits, IsTableInLimits, is_lookup_kind}
 use Rattle.schema_plan.specs.Lineage.{one_if}
 use Rattle.schema_plan.specs.Ready.{ready_kind}
@@ -33,14 +33,14 @@ use Rattle.life_intervals.proofs.AcceptedLemmas.{AreSound-accepted, place-below,
 use Rattle.life_intervals.proofs.CohortParentLemmas.{ready_is}
 use Rattle.life_intervals.proofs.KeyLemmas.{OrdersCohorts-generator_of, key_of-within}
 use Rattle.life_intervals.proofs.LifeLemmas.{change_unit-le, loss_of-death}
-use Rattle.life_intervals.proofs.Ranges.{flat_map-range_with_len_more, range_with_len-add}
+use Rattle.life_intervals.proofs.Ranges.{flat_map-range_with_len_more}
 use Rattle.life_intervals.proofs.ReferenceLemmas.{at_column, reference_at-within}
-use Rattle.row_lines.specs.CohortLines.{LinesOf}
+use Rattle.row_lines.specs.CohortLines.{LinesOf, asked_for as asked_of_lines}
 use Rattle.row_lines.specs.RunFields.{AreRowsOf, asked_for, asked_long, asked_short, size_for}
 use Rattle.row_lines.specs.Kept.{kept_by}
 use Rattle.row_lines.specs.Runs.{AreLiving, RunLinesOf, behind, layout_for, line_for, living_from, text_at, text_behind}
 use Rattle.row_lines.specs.TableLines.{has_short_keys, is_short_at}
-use Rattle.row_lines.proofs.CohortLineLemmas.{asked_for_line-is, asked_in, max_line-columns, room_in, steps-line_cost}
+use Rattle.row_lines.proofs.CohortLineLemmas.{asked_before, asked_for_line-is, max_line-columns, room_in, steps-line_cost, sum_by-range_more}
 use Rattle.row_lines.proofs.FieldLemmas.{field-in_table, field-key, in_table-own}
 use Rattle.row_lines.proofs.KeptLemmas.{kept_by-each, kept_by-filter, length-kept_by}
 use Rattle.row_lines.proofs.LineLemmas.{key_of-by}
@@ -80,6 +80,9 @@ own_no_lookup (case_kind on branches) own = refl
 own_no_lookup (reference_kind parent window spread nulls drawn) own = refl
 own_no_lookup (list_kind words) own = refl
 own_no_lookup (unit_date_kind changed start step) own = refl
+own_no_lookup (after_kind of lo hi) own = refl
+own_no_lookup (sum_kind of) own = refl
+own_no_lookup (product_kind of) own = refl
 
 -- what is known to be short is made of units and of draws
 pub own_from_short : (delimiter : ℕ) (kind : KindLayout) → is_short (ready_kind delimiter kind) ≡ true → is_own kind ≡ true
@@ -185,12 +188,12 @@ text_at-reference lines limits own below within column ordinal parent key ready 
 -- what its field takes
 pub size-of_reference : (lines : RunLinesOf) (column : ℕ) (ready : ReadyReference) → IsReferenceOf lines.plan lines.table column ready → size_for lines column ≡ 20
 size-of_reference lines column ready of =
-    ap (λ (kind : KindLayout). (bounds_of (layout_of lines.plan).delimiter (layout_of lines.plan).tables (layout_for lines) kind).size)
+    ap (size_of (layout_of lines.plan).delimiter (layout_of lines.plan).tables (layout_for lines).columns)
     (kind_is (layout_for lines) column (reference_by column ready) (ready_is lines.plan lines.table column ready of).is)
 
 pub size-of_key : (lines : RunLinesOf) (column : ℕ) → (column_at (layout_for lines).columns column).kind ≡ key_kind → size_for lines column ≡ 20
 size-of_key lines column is =
-    ap (λ (kind : KindLayout). (bounds_of (layout_of lines.plan).delimiter (layout_of lines.plan).tables (layout_for lines) kind).size) is
+    ap (size_of (layout_of lines.plan).delimiter (layout_of lines.plan).tables (layout_for lines).columns) is
 
 -- ---- what lines take
 
@@ -230,29 +233,22 @@ line_for-size lines ordinal some short =
     )
 
 -- the permutations of the short fields and of the long ones are those of all
-pub sum_by-range_more : (f : ℕ → ℕ) (k : ℕ) → sum_by f (range_with_len 0 (k + 1)) ≡ sum_by f (range_with_len 0 k) + f k
-sum_by-range_more f k =
-    let last : 0 + k ≡ k = omega arith in
-    let one : sum_by f (range_with_len (0 + k) 1) ≡ f k = omega (arith, ap f last) in
-    omega (arith, one, ap (sum_by f) (range_with_len-add 0 k 1), sum_by-append f (range_with_len 0 k) (range_with_len (0 + k) 1))
-
 pub asked-more : (f : ℕ → ℕ) (k count before steps more : ℕ) → steps ≤ before + count * sum_by f (range_with_len 0 k) → more ≤ steps + count * f k → more ≤ before + count * sum_by f (range_with_len 0 (k + 1))
 asked-more f k count before steps more so_far here = omega (arith, so_far, here, ap (λ (n : ℕ). count * n) (sum_by-range_more f k))
 
 asked-split : (lines : RunLinesOf) (k : ℕ) → k ≤ length (layout_for lines).columns →
-    sum_by (asked_short lines) (range_with_len 0 k) + sum_by (asked_long lines) (range_with_len 0 k) ≡ sum_by (asked_in (lines_of lines)) (take k (layout_for lines).columns)
+    sum_by (asked_short lines) (range_with_len 0 k) + sum_by (asked_long lines) (range_with_len 0 k) ≡ asked_before (lines_of lines) k
 asked-split lines zero within = refl
 asked-split lines (suc k) within =
     let next : suc k ≡ k + 1 = omega arith in
-    let columns : List ColumnLayout = (layout_for lines).columns in
     omega (
       arith,
       ap (λ (n : ℕ). sum_by (asked_short lines) (range_with_len 0 n)) next,
       ap (λ (n : ℕ). sum_by (asked_long lines) (range_with_len 0 n)) next,
-      ap (λ (n : ℕ). sum_by (asked_in (lines_of lines)) (take n columns)) next,
+      ap (asked_before (lines_of lines)) next,
       sum_by-range_more (asked_short lines) k,
       sum_by-range_more (asked_long lines) k,
-      sum_by_more (asked_in (lines_of lines)) columns k no_column (omega (arith, within)),
+      sum_by-range_more (asked_of_lines true (lines_of lines)) k,
       asked-split lines k (omega (arith, within)),
       either (is_short_at lines.plan lines.table k) (asked_for lines k),
     )
@@ -269,7 +265,6 @@ line-steps lines sound table limits =
     omega (
       arith,
       asked-split lines (length (layout_for lines).columns) (omega arith),
-      ap (sum_by (asked_in (lines_of lines))) (take_all (length (layout_for lines).columns) (layout_for lines).columns (omega arith)),
       asked_for_line-is (lines_of lines),
       steps-line_cost (lines_of lines) sound table limits,
     )

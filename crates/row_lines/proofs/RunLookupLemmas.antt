@@ -25,14 +25,14 @@ use Rattle.life_intervals.specs.Rows.{Row}
 use Rattle.life_intervals.proofs.AcceptedLemmas.{place-below, row_at-changed}
 use Rattle.life_intervals.proofs.CohortParentLemmas.{parent_below}
 use Rattle.row_lines.specs.CohortLines.{LinesOf}
-use Rattle.row_lines.specs.Lines.{draws_of}
+use Rattle.row_lines.specs.RowViews.{draws_of}
 use Rattle.row_lines.specs.Lookups.{IsLookupOf, text_held}
 use Rattle.row_lines.specs.RunFields.{AreMade, AreRowsOf, asked_for, column_lines, size_for}
 use Rattle.row_lines.specs.Runs.{RunLinesOf, layout_for, text_at}
 use Rattle.row_lines.specs.TableLines.{behind_of, column_of, is_short_at, is_short_kind, shown_by, shown_of, table_lines}
 use Rattle.row_lines.proofs.CohortFieldLemmas.{ready_at}
 use Rattle.row_lines.proofs.FieldLemmas.{in_table-own}
-use Rattle.row_lines.proofs.LookupLemmas.{asked-lookup, bounds_of-in_table, is_lookup, looks_up_still, reference_cascades, reference_ready, reference_to, room-lookup, size-lookup, text-looked_up}
+use Rattle.row_lines.proofs.LookupLemmas.{asked-lookup, size_of-in_table, is_lookup, looks_up_still, reference_cascades, reference_ready, reference_to, room-lookup, size-lookup, text-looked_up}
 use Rattle.life_intervals.proofs.HeldParentLemmas.{parent_of-by}
 use Rattle.row_lines.proofs.RunFieldLemmas.{own_from_short, run-birth, run-born}
 use Rattle.row_lines.proofs.RunTextLemmas.{born_for}
@@ -117,16 +117,16 @@ shown-short plan table column unit lookup of short = sym (ap (is_short_kind plan
 
 -- ---- what a parent holds in a column that doesn't move
 
-pub text_held-own : (plan : Project) (table unit ordinal column born : ℕ) → IsTableInLimits (last_unit plan) (table_of plan table) → IsStillColumn (table_of plan table) column →
+pub text_held-own : (plan : Project) (table unit ordinal column born : ℕ) → IsInLimits plan → table < length plan.schema.tables → IsTableInLimits (last_unit plan) (table_of plan table) → IsStillColumn (table_of plan table) column →
     (run_column plan table column 0).short ≡ true → birth (table_of plan table).births unit ordinal ≡ born →
     field_text (layout_of plan).delimiter (value_at (layout_of plan) table column (record { ordinal = ordinal; born = born; changed = born })) ≡ text_held plan table unit ordinal column
-text_held-own plan table unit ordinal column born limits still short born_is =
+text_held-own plan table unit ordinal column born sound below limits still short born_is =
     let generator : Generator = generator_of plan in
     let row : Row = row_at generator table unit ordinal in
     let own = own_from_short (layout_of plan).delimiter (column_at (table_of plan table).columns column).kind short in
     ap (λ (b : ℕ). field_text (layout_of plan).delimiter (value_at (layout_of plan) table column (record { ordinal = ordinal; born = b; changed = born }))) (sym born_is)
     ∙ ap (field_text (layout_of plan).delimiter)
-    (sym (in_table-own generator table column (record row { changed = born }) own) ∙ still_field-changed generator table row born (last_unit plan) limits column still.within still.still)
+    (sym (in_table-own generator table column (record row { changed = born }) own) ∙ still_field-changed generator table row born (last_unit plan) limits (λ place within. sound.lookups table place below within) column still.within still.still)
 
 -- ---- what a row looks up
 
@@ -167,11 +167,11 @@ made-lookups lines rows column lookup reference parents own held pieces sound be
       ∙ looked_up-put (null i) (piece_text_at pieces i) _ (piece_text_at held i) (shows i) byte (nulled i inside ∙ null_by own_is i inside) refl (text i inside)
       ∙ ap (λ (t : List ℕ). t ++ byte ∷ []) (sym (written i inside));
   size = λ i inside.
-      let in_table = bounds_of-in_table (layout_of lines.plan).delimiter (layout_of lines.plan).tables (table_of lines.plan lookup.parent) (column_at (table_of lines.plan lookup.parent).columns lookup.column).kind
+      let in_table = size_of-in_table (layout_of lines.plan).delimiter (layout_of lines.plan).tables (table_of lines.plan lookup.parent).columns (column_at (table_of lines.plan lookup.parent).columns lookup.column).kind
       (looks_up_still (column_lines lines) sound below column lookup of).no_lookup in
       subst (λ (t : List ℕ). length t ≤ size_for lines column) (sym (written i inside))
       (looked_up-length (null i) (shows i) (size_for lines column) (room-lookup (column_lines lines) sound below column lookup of)
-      (omega (arith, size i inside, size-lookup (column_lines lines) sound below column lookup of, ap (λ bounds. bounds.size) in_table)));
+      (omega (arith, size i inside, size-lookup (column_lines lines) sound below column lookup of, in_table)));
 }
   where
     byte : ℕ

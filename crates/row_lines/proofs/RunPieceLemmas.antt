@@ -8,6 +8,7 @@ use Rattle.line_pages.specs.Pieces.{piece_text}
 use Rattle.line_pages.specs.Rows.{piece_text_at, row_of_pieces, rows_of_pieces}
 use Rattle.row_text.specs.Fields.{field_text}
 use Rattle.cohort_sizes.proofs.CohortLemmas.{born_count-le}
+use Rattle.schema_plan.specs.declared.ready.ReadyAfter.{ReadyAfter}
 use Rattle.schema_plan.specs.declared.ready.ReadyKind.{ReadyKind}
 use Rattle.schema_plan.specs.declared.ready.ReadyKind.TheVariants as kind
 use Rattle.schema_plan.specs.declared.ready.ReadyLookup.{ReadyLookup}
@@ -55,19 +56,22 @@ pub column_of-is : (plan : Project) (table column : ℕ) (run : RunColumnOf) →
 column_of-is plan table column run below within is =
     subst (IsRunColumn plan) (sym is) (record { table_within = below; column_within = within; is = refl })
 
--- what is no key, no reference and no lookup is short where what is prepared of it says so
+-- what is no key, no reference, no lookup and no date after a date is short where what is prepared of it says so
 pub short-drawn : (plan : Project) (table : ℕ) (column : RunColumnOf) (held : ReadyKind) → is_short_kind plan table column held ≡ true → (held ≡ kind.Key → ⊥) →
-    ((reference : ReadyReference) → held ≡ kind.Reference reference → ⊥) → ((lookup : ReadyLookup) → held ≡ kind.Lookup lookup → ⊥) → column.short ≡ true
-short-drawn plan table column kind.Key short no_key no_reference no_lookup = absurd (no_key refl)
-short-drawn plan table column kind.Born short no_key no_reference no_lookup = short
-short-drawn plan table column kind.Changed short no_key no_reference no_lookup = short
-short-drawn plan table column (kind.Drawn leaf) short no_key no_reference no_lookup = short
-short-drawn plan table column (kind.Template parts) short no_key no_reference no_lookup = short
-short-drawn plan table column (kind.Case on branches) short no_key no_reference no_lookup = short
-short-drawn plan table column (kind.Reference reference) short no_key no_reference no_lookup = absurd (no_reference reference refl)
-short-drawn plan table column (kind.Lookup lookup) short no_key no_reference no_lookup = absurd (no_lookup lookup refl)
-short-drawn plan table column (kind.List list) short no_key no_reference no_lookup = short
-short-drawn plan table column (kind.UnitDate date) short no_key no_reference no_lookup = short
+    ((reference : ReadyReference) → held ≡ kind.Reference reference → ⊥) → ((lookup : ReadyLookup) → held ≡ kind.Lookup lookup → ⊥) → ((after : ReadyAfter) → held ≡ kind.After after → ⊥) → column.short ≡ true
+short-drawn plan table column kind.Key short no_key no_reference no_lookup no_after = absurd (no_key refl)
+short-drawn plan table column kind.Born short no_key no_reference no_lookup no_after = short
+short-drawn plan table column kind.Changed short no_key no_reference no_lookup no_after = short
+short-drawn plan table column (kind.Drawn leaf) short no_key no_reference no_lookup no_after = short
+short-drawn plan table column (kind.Template parts) short no_key no_reference no_lookup no_after = short
+short-drawn plan table column (kind.After after) short no_key no_reference no_lookup no_after = absurd (no_after after refl)
+short-drawn plan table column (kind.Sum of) short no_key no_reference no_lookup no_after = short
+short-drawn plan table column (kind.Product of) short no_key no_reference no_lookup no_after = short
+short-drawn plan table column (kind.Case on branches) short no_key no_reference no_lookup no_after = short
+short-drawn plan table column (kind.Reference reference) short no_key no_reference no_lookup no_after = absurd (no_reference reference refl)
+short-drawn plan table column (kind.Lookup lookup) short no_key no_reference no_lookup no_after = absurd (no_lookup lookup refl)
+short-drawn plan table column (kind.List list) short no_key no_reference no_lookup no_after = short
+short-drawn plan table column (kind.UnitDate date) short no_key no_reference no_lookup no_after = short
 
 -- ---- what is drawn
 

@@ -1,10 +1,12 @@
 -- The lines of one cohort, and what the code keeps of them.
 use Rattle.std.specs.Prelude.{◌≡◌, ◌<◌, ◌≤◌, ℕ, ◌+◌, Bool, List, Option, decimal, false, get_or, if◌then◌else◌, length, sum_by, true}
+use Rattle.std.specs.List.{range_with_len}
 use Rattle.std.specs.Option.{option_map}
 use Rattle.row_text.specs.Fields.{field_text}
 use Rattle.cohort_sizes.specs.Births.{first_ordinal}
-use Rattle.schema_plan.specs.FieldBounds.{bounds_alone, bounds_of}
-use Rattle.schema_plan.specs.Layout.{PartLayout, literal_part, cited_part, KindLayout, key_kind, template_kind, lookup_kind, ColumnLayout, column_at, layout_of, TableLayout}
+use Rattle.schema_plan.specs.ColumnFacts.{field_cost}
+use Rattle.schema_plan.specs.FieldSizes.{size_of}
+use Rattle.schema_plan.specs.Layout.{PartLayout, literal_part, cited_part, KindLayout, key_kind, template_kind, lookup_kind, Layout, TableLayout, column_at, layout_of, table_at}
 use Rattle.schema_plan.specs.Limits.{IsInLimits, IsTableInLimits}
 use Rattle.schema_plan.specs.Lineage.{lineages, null_cost_of}
 use Rattle.schema_plan.specs.Dictionaries.{Project}
@@ -111,40 +113,40 @@ pub record AreLinesOf (lines : LinesOf) (columns : List ReadyColumn) (fields : L
 -- what the field of the column at a place takes at most, in bytes
 abbrev pub size_for : LinesOf → ℕ → ℕ
 size_for lines column =
-    (bounds_of (layout_of lines.plan).delimiter (layout_of lines.plan).tables (layout_for lines)
-    (column_at (layout_for lines).columns column).kind).size
+    size_of (layout_of lines.plan).delimiter (layout_of lines.plan).tables (layout_for lines).columns
+    (column_at (layout_for lines).columns column).kind
 
--- how many permutations a field takes at most that needs no other column: as many as the schema counts for it and for whether it is
--- null, but none for a key that is known
-abbrev pub asked_alone : Bool → ℕ → List TableLayout → TableLayout → KindLayout → ℕ
-asked_alone known delimiter tables table key_kind = if known then 0 else (bounds_alone delimiter tables table key_kind).permutations
-asked_alone known delimiter tables table kind =
-    null_cost_of (lineages tables) kind + (bounds_alone delimiter tables table kind).permutations
+-- none for a key that is known
+abbrev pub unless_known : KindLayout → Bool → ℕ → ℕ
+unless_known key_kind true asked = 0
+unless_known _ _ asked = asked
+
+-- how many permutations the field of a column takes at most that is no template and no lookup, by whether the row's key is known: those
+-- that tell whether it is null, and those that the schema counts for it
+abbrev pub asked_alone : Bool → Layout → ℕ → ℕ → ℕ
+asked_alone known layout table column =
+    unless_known (column_at (table_at layout.tables table).columns column).kind known
+    (null_cost_of (lineages layout.tables) (column_at (table_at layout.tables table).columns column).kind + field_cost layout table column)
 
 -- how many a part of a template takes
-abbrev pub asked_by_part : Bool → ℕ → List TableLayout → TableLayout → PartLayout → ℕ
-asked_by_part known delimiter tables table (literal_part bytes) = 0
-asked_by_part known delimiter tables table (cited_part column width) =
-    asked_alone known delimiter tables table (column_at table.columns column).kind
+abbrev pub asked_by_part : Bool → Layout → ℕ → PartLayout → ℕ
+asked_by_part known layout table (literal_part bytes) = 0
+asked_by_part known layout table (cited_part column width) = asked_alone known layout table column
 
--- how many a field takes at most, by whether the row's key is known
-abbrev pub asked_by : Bool → ℕ → List TableLayout → TableLayout → KindLayout → ℕ
-asked_by known delimiter tables table (template_kind parts) = sum_by (asked_by_part known delimiter tables table) parts
-asked_by known delimiter tables table (lookup_kind via parent column) =
-    (bounds_of delimiter tables table (lookup_kind via parent column)).permutations
-asked_by known delimiter tables table kind = asked_alone known delimiter tables table kind
+-- how many the field of a column of this kind takes
+abbrev pub asked_by : Bool → Layout → ℕ → ℕ → KindLayout → ℕ
+asked_by known layout table column (template_kind parts) = sum_by (asked_by_part known layout table) parts
+asked_by known layout table column (lookup_kind via parent name) = field_cost layout table column
+asked_by known layout table column kind = asked_alone known layout table column
 
 -- that of the column at a place
 abbrev pub asked_for : Bool → LinesOf → ℕ → ℕ
 asked_for known lines column =
-    asked_by known (layout_of lines.plan).delimiter (layout_of lines.plan).tables (layout_for lines)
-    (column_at (layout_for lines).columns column).kind
+    asked_by known (layout_of lines.plan) lines.table column (column_at (layout_for lines).columns column).kind
 
 -- those of a line of a row whose key is known
 unfoldable pub asked_for_line : LinesOf → ℕ
-asked_for_line lines =
-    sum_by (λ (column : ColumnLayout). asked_by true (layout_of lines.plan).delimiter (layout_of lines.plan).tables (layout_for lines) column.kind)
-    (layout_for lines).columns
+asked_for_line lines = sum_by (asked_for true lines) (range_with_len 0 (length (layout_for lines).columns))
 
 -- the permutations of the column at a place, where a flag of it isn't true: its fields are made of the row, and not kept as pieces
 abbrev pub asked_where : List Bool → LinesOf → ℕ → ℕ

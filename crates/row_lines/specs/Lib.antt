@@ -1,7 +1,10 @@
+pub mod RowViews
+pub mod Derived
 pub mod Lines
 pub mod CohortLines
 pub mod Parts
 pub mod Lookups
+pub mod Totals
 pub mod Kept
 pub mod Runs
 pub mod TableLines

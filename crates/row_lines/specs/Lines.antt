@@ -1,48 +1,40 @@
 -- The text of a table: a line for each row, in COPY text form (PostgreSQL's manual, "COPY").
-use Rattle.std.specs.Prelude.{ℕ, ◌==◌, List, [], ◌++◌, filter, find, map, flat_map, length, zip, Option, Some, codes, decimal, if◌then◌else◌, unwrap_or}
+use Rattle.std.specs.Prelude.{ℕ, ◌==◌, List, [], ◌++◌, filter, find, map, flat_map, length, Option, Some, codes, decimal, if◌then◌else◌, unwrap_or}
 use Rattle.std.specs.List.{join_with_byte, range_with_len}
 use Rattle.std.specs.Option.{option_and_then, option_map}
 use Rattle.line_pages.specs.Padding.{padded}
 use Rattle.row_text.specs.Fields.{field_text}
 use Rattle.cohort_sizes.specs.Births.{cohort_size, first_ordinal}
 use Rattle.schema_plan.specs.Dictionaries.{Project}
-use Rattle.schema_plan.specs.Layout.{PartLayout, literal_part, cited_part, KindLayout, key_kind, template_kind, reference_kind, lookup_kind, TableLayout, table_at, column_at}
-use Rattle.schema_plan.specs.References.{Reference, references_of}
-use Rattle.draw_values.specs.declared.values.RowAt.{RowAt}
-use Rattle.draw_values.specs.Values.{RowDraws, draw_unit, own_value, unless_null}
+use Rattle.schema_plan.specs.Layout.{PartLayout, literal_part, cited_part, KindLayout, key_kind, template_kind, reference_kind, lookup_kind, after_kind, sum_kind, product_kind, table_at, column_at}
+use Rattle.draw_values.specs.Dates.{date_text}
+use Rattle.draw_values.specs.Values.{number_text, own_value, unless_null}
 use Rattle.life_intervals.specs.Generator.{Generator, generator_of, last_unit}
 use Rattle.life_intervals.specs.Intervals.{is_live, row_at}
 use Rattle.life_intervals.specs.Keys.{key_in_cohort, key_of}
 use Rattle.life_intervals.specs.Rows.{Row, index_in_cohort}
 use Rattle.life_intervals.specs.Simulation.{rows_at}
 use Rattle.life_intervals.specs.Streams.{deleted, inserted, updated}
+use Rattle.row_lines.specs.Derived.{day_of_kind, number_of_kind}
+use Rattle.row_lines.specs.RowViews.{at_row, draws_of, parent_of_row}
 
 -- the row of an ordinal that the table at a place holds at a unit; None where it holds none
 abbrev pub held_row : Generator → ℕ → ℕ → ℕ → Option Row
 held_row generator place unit ordinal = find (λ (row : Row). row.ordinal == ordinal) (rows_at generator place unit)
 
--- a row, as its own values see it
-abbrev pub at_row : Row → RowAt
-at_row row = record { ordinal = row.ordinal; born = row.born; changed = row.changed }
-
--- the draws of a row's fields, by the column's place
-abbrev pub draws_of : Generator → ℕ → Row → RowDraws
-draws_of generator place row column =
-    generator.draw place column (draw_unit (column_at (table_at generator.tables place).columns column) (at_row row)) row.ordinal
-
--- the ordinal of the parent that a row of a table has by the reference in the column at a place; None where it has lost it
-abbrev pub parent_of_row : TableLayout → Row → ℕ → Option ℕ
-parent_of_row table row column =
-    option_and_then (λ (at : Reference × Option ℕ). at.1)
-    (find (λ (at : Reference × Option ℕ). at.0.column == column) (zip (references_of table) row.parents))
-
 -- what a row of the table at a place holds in the column at a place, which is of this kind and puts no fields together, where that
--- isn't null by its own draw: in a reference the key of its parent, which is born by the row's birth, and None where it has lost it
+-- isn't null by its own draw: in a reference the key of its parent, which is born by the row's birth, and None where it has lost it;
+-- in a date after a date, a sum or a product None where one of the columns is null from which it is worked out
 abbrev pub value_alone : Generator → ℕ → Row → ℕ → KindLayout → Option (List ℕ)
 value_alone generator place row column key_kind =
     Some (decimal (key_in_cohort generator place row.born (index_in_cohort (table_at generator.tables place) row)))
 value_alone generator place row column (reference_kind parent window spread nulls drawn) =
     option_map (λ ordinal. decimal (key_of generator parent row.born ordinal)) (parent_of_row (table_at generator.tables place) row column)
+value_alone generator place row column (after_kind of lo hi) =
+    option_map date_text (day_of_kind generator place row column (after_kind of lo hi))
+value_alone generator place row column (sum_kind of) = option_map number_text (number_of_kind generator place row column (sum_kind of))
+value_alone generator place row column (product_kind of) =
+    option_map number_text (number_of_kind generator place row column (product_kind of))
 value_alone generator place row column kind =
     own_value (table_at generator.tables place).columns (at_row row) (draws_of generator place row) column kind
 

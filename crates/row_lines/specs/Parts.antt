@@ -5,7 +5,7 @@ use Rattle.line_pages.specs.Padding.{padded}
 use Rattle.row_text.specs.Fields.{escaped_text}
 use Rattle.schema_plan.specs.declared.ready.ReadyPart.{ReadyPart}
 use Rattle.schema_plan.specs.declared.ready.ReadyPart.TheVariants as part
-use Rattle.schema_plan.specs.FieldBounds.{bounds_alone}
+use Rattle.schema_plan.specs.FieldSizes.{size_alone}
 use Rattle.schema_plan.specs.Layout.{layout_of, column_at}
 use Rattle.schema_plan.specs.Limits.{IsFilled, is_cited}
 use Rattle.draw_values.specs.Values.{written}
@@ -24,8 +24,7 @@ cited_text lines index changed column = written (layout_of lines.plan).delimiter
 -- what that takes at most, in bytes
 abbrev pub cited_size : LinesOf → ℕ → ℕ
 cited_size lines column =
-    (bounds_alone (layout_of lines.plan).delimiter (layout_of lines.plan).tables (layout_for lines)
-    (column_at (layout_for lines).columns column).kind).size
+    size_alone (layout_of lines.plan).delimiter (column_at (layout_for lines).columns column).kind
 
 -- a column of the table that may be cited
 pub record IsCitable (lines : LinesOf) (column : ℕ) : Type 0 where
@@ -56,9 +55,7 @@ part_size lines (part.Cited column width) = padded_size lines column width
 
 -- how many permutations a cited column and a part take, by whether the row's key is known
 abbrev pub cited_asked : Bool → LinesOf → ℕ → ℕ
-cited_asked known lines column =
-    asked_alone known (layout_of lines.plan).delimiter (layout_of lines.plan).tables (layout_for lines)
-    (column_at (layout_for lines).columns column).kind
+cited_asked known lines column = asked_alone known (layout_of lines.plan) lines.table column
 
 abbrev pub part_asked : Bool → LinesOf → ReadyPart → ℕ
 part_asked known lines (part.Literal bytes) = 0

@@ -2,7 +2,7 @@
 use Rattle.std.specs.Prelude.{◌≡◌, ◌<◌, ◌≤◌, ℕ, ◌+◌, true, List, get_or, if◌then◌else◌, length}
 use Rattle.line_pages.specs.declared.piece.Piece.{Piece}
 use Rattle.line_pages.specs.Rows.{piece_text_at}
-use Rattle.schema_plan.specs.FieldBounds.{bounds_of}
+use Rattle.schema_plan.specs.FieldSizes.{size_of}
 use Rattle.schema_plan.specs.Layout.{column_at, layout_of}
 use Rattle.schema_plan.specs.Limits.{IsInLimits, IsTableInLimits}
 use Rattle.draw_values.specs.declared.items.ItemizedField.{ItemizedField}
@@ -35,8 +35,8 @@ pub record AreRowsOf (lines : RunLinesOf) (rows : RunRows) : Type 0 where
 -- what the field of the column at a place takes at most, in bytes
 abbrev pub size_for : RunLinesOf → ℕ → ℕ
 size_for lines column =
-    (bounds_of (layout_of lines.plan).delimiter (layout_of lines.plan).tables (layout_for lines)
-    (column_at (layout_for lines).columns column).kind).size
+    size_of (layout_of lines.plan).delimiter (layout_of lines.plan).tables (layout_for lines).columns
+    (column_at (layout_for lines).columns column).kind
 
 -- no field of the row of an ordinal is longer than it may be
 pub record HasSizes (lines : RunLinesOf) (ordinal : ℕ) : Type 0 where
@@ -45,8 +45,7 @@ pub record HasSizes (lines : RunLinesOf) (ordinal : ℕ) : Type 0 where
 -- how many permutations it asks at most, where the row's key is known
 abbrev pub asked_for : RunLinesOf → ℕ → ℕ
 asked_for lines column =
-    asked_by true (layout_of lines.plan).delimiter (layout_of lines.plan).tables (layout_for lines)
-    (column_at (layout_for lines).columns column).kind
+    asked_by true (layout_of lines.plan) lines.table column (column_at (layout_for lines).columns column).kind
 
 -- the same of a column whose fields are made as pieces, and of one whose aren't; 0 of any other
 abbrev pub asked_short : RunLinesOf → ℕ → ℕ

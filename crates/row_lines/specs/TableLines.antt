@@ -1,5 +1,5 @@
 -- What the lines of a table's rows are made from, column by column.
-use Rattle.std.specs.Prelude.{◌≡◌, ℕ, ◌+◌, ◌^◌, Bool, false, List, Option, Some, None, length, map, nat_le}
+use Rattle.std.specs.Prelude.{◌≡◌, ℕ, ◌+◌, ◌^◌, Bool, false, true, List, Option, Some, None, length, map, nat_le}
 use Rattle.std.specs.List.{range_with_len}
 use Rattle.schema_plan.specs.declared.ready.ReadyKind.{ReadyKind}
 use Rattle.schema_plan.specs.declared.ready.ReadyKind.TheVariants as kind
@@ -43,6 +43,7 @@ abbrev pub is_short_kind : Project → ℕ → RunColumnOf → ReadyKind → Boo
 is_short_kind plan table column kind.Key = has_short_keys plan table
 is_short_kind plan table column (kind.Reference reference) = has_short_keys plan reference.parent
 is_short_kind plan table column (kind.Lookup lookup) = is_short_shown (shown_by plan column.behind (kind.Lookup lookup))
+is_short_kind plan table column (kind.After after) = true
 is_short_kind plan table column _ = column.short
 
 abbrev pub is_short_at : Project → ℕ → ℕ → Bool

@@ -1,6 +1,6 @@
 -- Small generators, whose tables can be worked out by hand.
-use Rattle.std.specs.Prelude.{ℕ, ◌-◌, Bool, false, true, List, [], ◌∷◌, Some, None, codes}
-use Rattle.schema_plan.specs.Layout.{literal_part, cited_part, KindLayout, key_kind, born_kind, changed_kind, template_kind, reference_kind, lookup_kind, ColumnLayout, TableLayout}
+use Rattle.std.specs.Prelude.{ℕ, ◌+◌, ◌-◌, pos, neg_ℤ, Bool, false, true, List, [], ◌∷◌, Some, None, codes}
+use Rattle.schema_plan.specs.Layout.{date_leaf, fixed_leaf, int_leaf, literal_part, cited_part, KindLayout, leaf_kind, after_kind, sum_kind, product_kind, key_kind, born_kind, changed_kind, template_kind, reference_kind, lookup_kind, ColumnLayout, TableLayout}
 use Rattle.life_intervals.specs.Generator.{Order, Draw, in_place, Generator}
 use Rattle.life_intervals.specs.Rows.{Row}
 
@@ -85,6 +85,35 @@ owned = record {
       ∷ plain_column (template_kind (literal_part (codes "of ") ∷ cited_part 1 0 ∷ [])) ∷ []) ∷ [];
   order = in_place;
   draw = no_draw;
+  delimiter = 9;
+}
+
+-- each draw is the column's place and its own number together
+abbrev pub by_column : Draw
+by_column table column unit ordinal number = column + number
+
+-- bills with a row at each unit: the key, the day that it is sent, one of ten, and that until which it is due, 1 to 30 days later; a day that
+-- is null, and one after it; 3, 12.34, their product and their sum; a number that is null, and a sum with it; -0.05, and three times that.
+-- And payments, each born with its bill: the key, the bill, the day until which that is due, and one 10 days later; what the bill's product
+-- is, and twice that; tabs between
+abbrev pub billed : Generator
+billed = record {
+  tables = keyed_table 1 1 1 false (plain_column (leaf_kind (date_leaf (pos 100) (pos 109)))
+      ∷ plain_column (after_kind 1 (pos 1) (pos 30))
+      ∷ record (nulled (leaf_kind (date_leaf (pos 200) (pos 200)))) { null = 4 }
+      ∷ plain_column (after_kind 3 (pos 0) (pos 0))
+      ∷ plain_column (leaf_kind (int_leaf (pos 3) (pos 3) 1))
+      ∷ plain_column (leaf_kind (fixed_leaf (pos 1234) (pos 1234) 2))
+      ∷ plain_column (product_kind (6 ∷ 5 ∷ []))
+      ∷ plain_column (sum_kind (6 ∷ 5 ∷ []))
+      ∷ record (nulled (leaf_kind (int_leaf (pos 1) (pos 1) 1))) { null = 10 }
+      ∷ plain_column (sum_kind (5 ∷ 9 ∷ []))
+      ∷ plain_column (leaf_kind (fixed_leaf (neg_ℤ (pos 5)) (neg_ℤ (pos 5)) 2))
+      ∷ plain_column (product_kind (11 ∷ 5 ∷ [])) ∷ [])
+      ∷ keyed_table 1 1 1 false (plain_column (reference_kind 0 (Some 0) (1 ∷ []) false false) ∷ plain_column (lookup_kind 1 0 2) ∷ plain_column (after_kind 2 (pos 10) (pos 10))
+      ∷ plain_column (lookup_kind 1 0 7) ∷ plain_column (sum_kind (4 ∷ 4 ∷ [])) ∷ []) ∷ [];
+  order = in_place;
+  draw = by_column;
   delimiter = 9;
 }
 

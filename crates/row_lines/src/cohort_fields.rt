@@ -30,12 +30,12 @@ use step_count::Steps;
 /// known.
 #[derive(Drop)]
 pub(crate) struct CohortFields<'a> {
-    rows: &'a Rows<'a>,
-    table: u32,
+    pub(crate) rows: &'a Rows<'a>,
+    pub(crate) table: u32,
     born: u64,
-    unit: u64,
+    pub(crate) unit: u64,
     first: u64,
-    columns: &'a [ReadyColumn],
+    pub(crate) columns: &'a [ReadyColumn],
 }
 
 impl<'a> Model for CohortFields<'a> {
@@ -215,6 +215,9 @@ impl<'a> CohortFields<'a> {
             ReadyKind::Reference(reference) => {
                 self.put_reference(column as u32, reference, index, buf, steps)
             }
+            ReadyKind::After(_) | ReadyKind::Sum { .. } | ReadyKind::Product { .. } => {
+                self.put_derived(column, index, key, values, buf, steps)
+            }
             _ => self.put_own(column, index, values, buf),
         }
     }
@@ -381,7 +384,36 @@ impl<'a> CohortFields<'a> {
             ReadyKind::Reference(reference) => {
                 self.put_parent(column as u32, reference, index, buf, steps)
             }
+            ReadyKind::After(_) => self.put_day(column, index, values, buf, steps),
+            ReadyKind::Sum { .. } | ReadyKind::Product { .. } => {
+                self.put_total(column, index, values, buf, steps)
+            }
             _ => values.put(column, self.ordinal(index), buf),
+        }
+    }
+
+    /// Appends the field of a date after a date, a sum or a product, or a null.
+    fn put_derived<L: Ledger>(
+        &self,
+        column: usize,
+        index: u64,
+        key: Option<u64>,
+        values: &CohortValues<'_>,
+        buf: &mut PageBuf,
+        steps: &mut Steps<L>,
+    )
+        requires column { IsCitable self.now column }
+        requires row { index < cohort_size (layout_for self.now).births self.now.born }
+        requires values { values.now ≡ values_at self.now values.now.changed }
+        requires key { IfSome key (λ k. k ≡ key_for self.now index) }
+        requires room { length buf.old.text + size_for self.now column ≤ buf.old.room }
+        ensures text { buf.new ≡ record buf.old { text = buf.old.text ++ text_in_table self.now index values.now.changed column } }
+        ensures size { length (text_in_table self.now index values.now.changed column) ≤ size_for self.now column }
+        ensures steps { steps.new ≤ steps.old + cited_asked (is_some key) self.now column }
+    {
+        match self.put_cited(column, index, key, values, buf, steps) {
+            Put::Text => {}
+            Put::Null => put_null(buf),
         }
     }
 

@@ -5,8 +5,9 @@ ghost use Rattle.std.specs.List.{range_with_len};
 ghost use Rattle.line_pages.specs.Pieces.{piece_text};
 ghost use Rattle.line_pages.specs.Rows.{piece_text_at};
 ghost use Rattle.cohort_sizes.specs.Births.{birth, born_count, cohort_size};
-ghost use Rattle.schema_plan.specs.FieldBounds.{bounds_at};
-ghost use Rattle.schema_plan.specs.Layout.{layout_of};
+ghost use Rattle.schema_plan.specs.ColumnFacts.{field_cost};
+ghost use Rattle.schema_plan.specs.FieldSizes.{size_at};
+ghost use Rattle.schema_plan.specs.Layout.{column_at, layout_of};
 ghost use Rattle.schema_plan.specs.Limits.{IsStillColumn};
 ghost use Rattle.schema_plan.specs.Lineage.{one_if};
 ghost use Rattle.schema_plan.specs.TableFacts.{line_cost, max_line};
@@ -15,10 +16,11 @@ ghost use Rattle.life_intervals.specs.Generator.{last_unit, table_of};
 ghost use Rattle.row_lines.specs.CohortLines.{asked_for, asked_for_line, asked_where, change_for, is_live_for, key_for, layout_for, line_in_cohort, size_for, text_in_cohort, values_at};
 ghost use Rattle.row_lines.specs.TableLines.{behind_of};
 ghost use Rattle.row_lines.specs.Lookups.{IsLookupOf, text_held};
+ghost use Rattle.row_lines.specs.Totals.{IsDated};
 
-use crate::bytes::byte_behind;
+use crate::bytes::{byte_behind, null_piece};
 use crate::cohort_fields::CohortFields;
-use draw_values::CohortValues;
+use draw_values::{CohortValues, day_piece};
 use life_intervals::{Rows, birth, cohort};
 use line_pages::{PageBuf, Piece};
 use row_text::put_null;
@@ -225,6 +227,30 @@ impl<'a> CohortLines<'a> {
         buf.put_piece(&Piece::of_byte(behind));
     }
 
+    /// Returns the field of the column at a place, which must be one of dates after dates, and the byte after it.
+    #[inline(always)]
+    pub(crate) fn date_piece<L: Ledger>(
+        &self,
+        column: usize,
+        index: u64,
+        values: &CohortValues<'_>,
+        behind: u8,
+        steps: &mut Steps<L>,
+    ) -> Piece
+        requires column { column < length (layout_for self.now).columns }
+        requires dated { IsDated (column_at (layout_for self.now).columns column).kind }
+        requires row { index < cohort_size (layout_for self.now).births self.now.born }
+        requires values { values.now ≡ values_at self.now (change_for self.now index) }
+        ensures text { piece_text result ≡ text_in_cohort self.now index column ++ behind ∷ [] }
+        ensures size { length (text_in_cohort self.now index column) ≤ size_for self.now column }
+        ensures steps { steps.new ≤ steps.old + asked_for true self.now column }
+    {
+        match self.fields.day(column, index, values, steps) {
+            Some(day) => day_piece(day, Piece::of_byte(behind)),
+            None => null_piece(behind),
+        }
+    }
+
     /// Appends the field of the lookup in the column at a place.
     fn put_lookup<L: Ledger>(
         &self,
@@ -270,10 +296,10 @@ impl<'a> CohortLines<'a> {
         requires table { lookup.now.parent < length self.now.plan.schema.tables }
         requires born { parent < born_count (table_of self.now.plan lookup.now.parent).births self.now.unit }
         requires column { IsStillColumn (table_of self.now.plan lookup.now.parent) lookup.now.column }
-        requires room { length buf.old.text + (bounds_at (layout_of self.now.plan).delimiter (layout_of self.now.plan).tables (table_of self.now.plan lookup.now.parent) lookup.now.column).size ≤ buf.old.room }
+        requires room { length buf.old.text + size_at (layout_of self.now.plan).delimiter (table_of self.now.plan lookup.now.parent).columns lookup.now.column ≤ buf.old.room }
         ensures text { buf.new ≡ record buf.old { text = buf.old.text ++ text_held self.now.plan lookup.now.parent self.now.unit parent lookup.now.column } }
-        ensures size { length (text_held self.now.plan lookup.now.parent self.now.unit parent lookup.now.column) ≤ (bounds_at (layout_of self.now.plan).delimiter (layout_of self.now.plan).tables (table_of self.now.plan lookup.now.parent) lookup.now.column).size }
-        ensures steps { steps.new ≤ steps.old + (bounds_at (layout_of self.now.plan).delimiter (layout_of self.now.plan).tables (table_of self.now.plan lookup.now.parent) lookup.now.column).permutations }
+        ensures size { length (text_held self.now.plan lookup.now.parent self.now.unit parent lookup.now.column) ≤ size_at (layout_of self.now.plan).delimiter (table_of self.now.plan lookup.now.parent).columns lookup.now.column }
+        ensures steps { steps.new ≤ steps.old + field_cost (layout_of self.now.plan) lookup.now.parent lookup.now.column }
     {
         let table = lookup.parent;
         let plan = self.rows.plan();

@@ -20,8 +20,9 @@ ghost use Rattle.life_intervals.specs.Keys.{key_of};
 ghost use Rattle.life_intervals.specs.Rows.{Row};
 ghost use Rattle.life_intervals.specs.Sound.{AreSound};
 ghost use Rattle.line_pages.specs.Padding.{padded};
-ghost use Rattle.row_lines.specs.Lines.{cohort_text, draws_of, field, first_lines, key_line_of, line, line_if_live, line_of, part_text, table_text, text_before};
-ghost use Rattle.row_lines.specs.Worked.{first_house, first_note, first_note_alone, labels, land, one, owned, pairs};
+ghost use Rattle.row_lines.specs.Lines.{cohort_text, field, first_lines, key_line_of, line, line_if_live, line_of, part_text, table_text, text_before};
+ghost use Rattle.row_lines.specs.RowViews.{draws_of};
+ghost use Rattle.row_lines.specs.Worked.{billed, first_house, first_note, first_note_alone, labels, land, one, owned, pairs};
 
 /// The text of a table at a unit is the lines of the ordinals that are born by the unit and alive.
 pub fn text_is_the_lines_of_the_living()
@@ -170,6 +171,13 @@ pub fn key_line_is_the_key_field()
         key_line_of generator last place ordinal
         ≡ field_text generator.delimiter
         (field generator unit place (row_at generator place unit ordinal) 0) ++ codes "\n" }
+{}
+
+/// Dates after dates, sums and products worked out by hand: of a row, with a null among what they are made of, and through lookups.
+pub fn worked_totals()
+    ensures bill { table_text billed 0 0 ≡ codes "1\t1970-04-13\t1970-04-17\t\\N\t\\N\t3\t12.34\t37.02\t15.34\t\\N\t\\N\t-0.05\t-0.15\n" }
+    ensures day_after_that_of_the_bill { field billed 0 1 first_house 3 ≡ Some (codes "1970-04-27") }
+    ensures twice_that_of_the_bill { field billed 0 1 first_house 5 ≡ Some (codes "74.04") }
 {}
 
 /// Texts worked out by hand: a row at each unit; scrambled keys in cohorts of two, with none at unit 0; two rows at unit 0 only; a

@@ -9,12 +9,14 @@
 mod bytes;
 mod cohort_fields;
 mod cohort_lines;
+mod derived;
 mod kept;
 pub mod laws;
 mod reports;
 mod rows;
 mod run_buf;
 mod run_columns;
+mod run_dates;
 mod run_keys;
 mod run_lines;
 mod run_lookups;

@@ -13,7 +13,7 @@ ghost use Rattle.row_lines.specs.RunFields.{AreItemized, AreMade, AreRowsOf, ask
 ghost use Rattle.row_lines.specs.RunParents.{AreKnown};
 ghost use Rattle.row_lines.specs.TableLines.{behind_of, column_of, has_short_keys, is_short_at};
 
-use crate::bytes::byte_behind;
+use crate::bytes::{byte_behind, null_piece};
 use crate::run_buf::MOST_ROWS;
 use crate::run_parents::Parents;
 use crate::runs::RunLines;
@@ -152,6 +152,7 @@ impl<'a> RunLines<'a> {
             ReadyKind::Lookup(lookup) => {
                 self.put_lookups(column, lookup, rows, parents, numbers, pieces, steps)
             }
+            ReadyKind::After(_) => self.put_dates(column, rows, behind, pieces, steps),
             _ => self.put_drawn(column, rows, numbers, pieces),
         }
     }
@@ -235,13 +236,6 @@ impl<'a> RunLines<'a> {
             .put_lives(reference.parent, self.unit, ordinals, births, live, steps);
         put_nulls(live, null_piece(behind), pieces);
     }
-}
-
-/// Returns a null and the byte after it.
-fn null_piece(behind: u8) -> Piece
-    ensures { piece_text result ≡ codes "\\N" ++ behind ∷ [] }
-{
-    Piece::of_byte(behind).prepend(b'N').prepend(b'\\')
 }
 
 /// Replaces each piece whose flag is false with the piece `null`.

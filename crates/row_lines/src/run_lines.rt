@@ -59,7 +59,7 @@ impl<'a> RunLines<'a> {
 
     /// Turns `lines` to the cohort of a unit of birth, unless they are of that cohort.
     #[inline(always)]
-    fn turn_to(&self, born: u64, lines: &mut CohortLines<'a>)
+    pub(crate) fn turn_to(&self, born: u64, lines: &mut CohortLines<'a>)
         requires born { born ≤ self.now.unit }
         requires lines { lines.old ≡ record { plan = self.now.plan; table = self.now.table; born = lines.old.born; unit = self.now.unit } }
         ensures { lines.new ≡ record { plan = self.now.plan; table = self.now.table; born = born; unit = self.now.unit } }

@@ -172,6 +172,7 @@ fn is_short(
         ReadyKind::Key => has_short_keys(plan, table),
         ReadyKind::Reference(reference) => has_short_keys(plan, reference.parent),
         ReadyKind::Lookup(_) => shown_is_short(shown),
+        ReadyKind::After(_) => true,
         _ => made.is_short(),
     }
 }

@@ -13,6 +13,7 @@ use Rattle.schema_plan.specs.declared.site.Site.TheVariants.{Whole, OfTable, OfC
 use Rattle.schema_model.specs.declared.column.Column.{Column}
 use Rattle.schema_model.specs.declared.table.Life.{Life}
 use Rattle.schema_model.specs.declared.table.Schema.{Schema}
+use Rattle.schema_plan.specs.ColumnFacts.{column_facts}
 use Rattle.schema_plan.specs.Dictionaries.{Dictionary, Project, project_of}
 use Rattle.schema_plan.specs.Layout.{births_of}
 use Rattle.schema_plan.specs.Lineage.{lineages}
@@ -115,7 +116,7 @@ unfolding chars
 lengths-kept size = refl
 
 cost-kept : (size : ℕ) → Kept size RowCost
-unfolding lineages line_cost
+unfolding lineages line_cost column_facts
 cost-kept size = refl
 
 lines-kept : (size : ℕ) → Kept size LineSize

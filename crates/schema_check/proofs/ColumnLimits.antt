@@ -1,5 +1,5 @@
 -- Columns that pass the tests of the rules are within their limits.
-use Rattle.std.proofs.Common.{◌≡◌, ◌∙◌, ℕ, ℤ, pos, neg_ℤ, ◌*◌, ◌+ℤ◌, ◌<◌, ◌≤◌, ◌&&◌, ◌||◌, not, zero, suc, ◌∷◌, All, Bool, true, false, List, [], length, map, get_or, nat_le, nat_lt, int_le, Some, refl, sym, ap, subst, arith}
+use Rattle.std.proofs.Common.{◌≡◌, ◌∙◌, ℕ, ℤ, pos, neg_ℤ, ◌*◌, ◌+ℤ◌, ◌<◌, ◌≤◌, ◌&&◌, ◌||◌, not, zero, suc, ◌∷◌, All, Bool, true, false, List, [], length, map, get_or, nat_le, nat_lt, int_le, Option, Some, is_some, refl, sym, ap, subst, arith}
 use Rattle.std.specs.List.{list_all}
 use Rattle.std.specs.Ordering.{int_eq}
 use Rattle.std.proofs.lemmas.Bool.{and_parts, eqb-true, leb-true, ltb-true}
@@ -14,13 +14,15 @@ use Rattle.schema_model.specs.declared.column.Leaf.{Leaf}
 use Rattle.schema_model.specs.declared.column.Leaf.TheVariants as drawn
 use Rattle.schema_model.specs.declared.column.Part.{Part}
 use Rattle.schema_model.specs.declared.column.Part.TheVariants as part
+use Rattle.schema_plan.specs.declared.days.Days.{Days}
+use Rattle.schema_plan.specs.declared.numbers.Numbers.{Numbers}
 use Rattle.schema_plan.specs.Citations.{leaves_of}
 use Rattle.schema_plan.specs.Counts.{count}
 use Rattle.schema_plan.specs.Dictionaries.{AreWordLists, Dictionary, Project}
 use Rattle.schema_plan.specs.Layout.{ColumnLayout, column_at, column_layout, kind_layout, leaf_layout, no_column, part_layout, place_of_column}
-use Rattle.schema_plan.specs.Limits.{AreFilledParts, AreParts, CitesStill, IsCase, IsDateRange, IsKindInLimits, IsUnitDateInLimits, IsFilledPart, IsLeafInLimits, IsPart, IsPickOf, IsStillPart, can_change, is_cited, is_moving_kind as is_moving_layout, is_whole_kind as is_whole_layout, is_whole_leaf as is_whole_leaf_layout, moves}
+use Rattle.schema_plan.specs.Limits.{AreFilledParts, AreParts, CitesStill, IsAfterRange, IsCase, IsDateRange, IsKindInLimits, IsUnitDateInLimits, IsFilledPart, IsLeafInLimits, IsPart, IsPickOf, IsStillPart, IsStillPlace, can_change, is_cited, is_moving_kind as is_moving_layout, is_whole_kind as is_whole_layout, is_whole_leaf as is_whole_leaf_layout, moves}
 use Rattle.schema_plan.specs.References.{Reference, reference_of}
-use Rattle.schema_plan.specs.Rules.{are_paddings, are_supplied, are_unit_days, is_supplied_kind, is_unit_date, is_redrawn_at, cites_still, is_between, is_case, is_change, is_citable, is_date_range, is_key_in_range, is_length_range, is_moving_kind, is_null_share, is_number_range, is_padding, is_part, is_pick_of, is_skew_range, is_spread, is_still_kind, is_still_part, is_template, is_weighted, is_whole_kind, is_whole_leaf, kind_at, may_be_redrawn, moves_at, null_at}
+use Rattle.schema_plan.specs.Rules.{are_paddings, are_still_names, are_supplied, are_unit_days, is_after_range, is_later_date, is_total, joins, is_supplied_kind, is_unit_date, is_redrawn_at, cites_still, is_between, is_case, is_change, is_citable, is_date_range, is_key_in_range, is_length_range, is_moving_kind, is_null_share, is_number_range, is_padding, is_part, is_pick_of, is_skew_range, is_spread, is_still_kind, is_still_part, is_template, is_weighted, is_whole_kind, is_whole_leaf, kind_at, may_be_redrawn, moves_at, null_at}
 use Rattle.schema_check.proofs.FromTests.{le_from_test, limit_from_test, passes_each}
 use Rattle.schema_check.proofs.LeafLimits.{leaf_in_limits, leaves_in_limits, words_supplied}
 use Rattle.schema_check.proofs.ReferenceLimits.{asked_units, spread_from_test}
@@ -144,8 +146,14 @@ case_from_test dictionaries tables columns place within on branches h each =
 
 -- ---- a column by its kind
 
-pub kind_in_limits : (project : Project) → AreWordLists project.dictionaries → (tables : List Table) (columns : List Column) (place : ℕ) → place ≤ length columns → (kind : Kind) → is_supplied_kind project kind ≡ true → list_all is_number_range (leaves_of kind) ≡ true → list_all is_date_range (leaves_of kind) ≡ true → list_all is_weighted (leaves_of kind) ≡ true → list_all is_skew_range (leaves_of kind) ≡ true → list_all is_length_range (leaves_of kind) ≡ true → is_template columns place kind ≡ true → is_case columns place kind ≡ true → is_spread kind ≡ true → IsKindInLimits (columns_layout project.dictionaries tables columns) place (kind_layout project.dictionaries tables columns kind)
-kind_in_limits project lists tables columns place within (kind.Leaf leaf) supplied numbers dates picks skews lengths parts case spread =
+after_range_from_test : (lo hi : ℤ) → is_after_range lo hi ≡ true → IsAfterRange lo hi
+after_range_from_test lo hi h =
+    let v = and_parts (int_le (neg_ℤ (pos 36525)) lo && int_le lo hi) (int_le hi (pos 36525)) h in
+    let w = and_parts (int_le (neg_ℤ (pos 36525)) lo) (int_le lo hi) v.0 in
+    record { least = le_from_test (neg_ℤ (pos 36525)) lo w.0; ordered = le_from_test lo hi w.1; most = le_from_test hi (pos 36525) v.1 }
+
+pub kind_in_limits : (project : Project) → AreWordLists project.dictionaries → (tables : List Table) (columns : List Column) (place : ℕ) → place ≤ length columns → (kind : Kind) → is_supplied_kind project kind ≡ true → list_all is_number_range (leaves_of kind) ≡ true → list_all is_date_range (leaves_of kind) ≡ true → list_all is_weighted (leaves_of kind) ≡ true → list_all is_skew_range (leaves_of kind) ≡ true → list_all is_length_range (leaves_of kind) ≡ true → is_template columns place kind ≡ true → is_case columns place kind ≡ true → is_spread kind ≡ true → (days : Option Days) → is_later_date days columns place kind ≡ true → IsKindInLimits (columns_layout project.dictionaries tables columns) place (kind_layout project.dictionaries tables columns kind)
+kind_in_limits project lists tables columns place within (kind.Leaf leaf) supplied numbers dates picks skews lengths parts case spread days later =
     leaf_in_limits project lists leaf
     ((and_parts (are_supplied project leaf) true supplied).0)
     ((and_parts (is_number_range leaf) true numbers).0)
@@ -153,13 +161,16 @@ kind_in_limits project lists tables columns place within (kind.Leaf leaf) suppli
     ((and_parts (is_weighted leaf) true picks).0)
     ((and_parts (is_skew_range leaf) true skews).0)
     ((and_parts (is_length_range leaf) true lengths).0)
-kind_in_limits project lists tables columns place within (kind.Template of) supplied numbers dates picks skews lengths parts case spread =
+kind_in_limits project lists tables columns place within (kind.Template of) supplied numbers dates picks skews lengths parts case spread days later =
     template_from_test project.dictionaries tables columns place within of parts
-kind_in_limits project lists tables columns place within (kind.Case on branches) supplied numbers dates picks skews lengths parts case spread =
+kind_in_limits project lists tables columns place within (kind.Case on branches) supplied numbers dates picks skews lengths parts case spread days later =
     case_from_test project.dictionaries tables columns place within on branches case (leaves_in_limits project lists branches supplied numbers dates picks skews lengths)
-kind_in_limits project lists tables columns place within (kind.Ref table window weights on_delete deal) supplied numbers dates picks skews lengths parts case spread = spread_from_test weights spread
-kind_in_limits project lists tables columns place within (kind.List file) supplied numbers dates picks skews lengths parts case spread = words_supplied project lists file supplied
-kind_in_limits project lists tables columns place within _ supplied numbers dates picks skews lengths parts case spread = tt
+kind_in_limits project lists tables columns place within (kind.Ref table window weights on_delete deal) supplied numbers dates picks skews lengths parts case spread days later = spread_from_test weights spread
+kind_in_limits project lists tables columns place within (kind.List file) supplied numbers dates picks skews lengths parts case spread days later = words_supplied project lists file supplied
+kind_in_limits project lists tables columns place within (kind.After of lo hi) supplied numbers dates picks skews lengths parts case spread days later =
+    let v = and_parts (is_after_range lo hi && is_some days) (is_redrawn_at columns place || not (moves_at columns (place_of_column columns of))) later in
+    after_range_from_test lo hi (and_parts (is_after_range lo hi) (is_some days) v.0).0
+kind_in_limits project lists tables columns place within _ supplied numbers dates picks skews lengths parts case spread days later = tt
 
 -- ---- the dates of units
 
@@ -191,6 +202,9 @@ can_change-layout : (dictionaries : List Dictionary) (tables : List Table) (colu
 can_change-layout dictionaries tables columns (kind.Leaf leaf) = refl
 can_change-layout dictionaries tables columns (kind.Template parts) = refl
 can_change-layout dictionaries tables columns (kind.Case on branches) = refl
+can_change-layout dictionaries tables columns (kind.After of lo hi) = refl
+can_change-layout dictionaries tables columns (kind.Sum of) = refl
+can_change-layout dictionaries tables columns (kind.Product of) = refl
 can_change-layout dictionaries tables columns _ = refl
 
 is_moving_kind-layout : (dictionaries : List Dictionary) (tables : List Table) (columns : List Column) (kind : Kind) → is_moving_layout (kind_layout dictionaries tables columns kind) ≡ is_moving_kind kind
@@ -229,25 +243,46 @@ still_part dictionaries tables columns (part.Literal text) h = tt
 still_part dictionaries tables columns (part.Cited name) h = still_from_test dictionaries tables columns (place_of_column columns name) h
 still_part dictionaries tables columns (part.Padded name width) h = still_from_test dictionaries tables columns (place_of_column columns name) h
 
-still_kind : (dictionaries : List Dictionary) (tables : List Table) (columns : List Column) (kind : Kind) → is_still_kind columns kind ≡ true → CitesStill (columns_layout dictionaries tables columns) (kind_layout dictionaries tables columns kind)
-still_kind dictionaries tables columns (kind.Template parts) h = λ i d lt.
+still_unless : (changes still : Bool) → changes ≡ false → (changes || still) ≡ true → still ≡ true
+still_unless true still none h = cc
+still_unless false still none h = h
+
+-- the operands of a column that doesn't change
+still_names : (dictionaries : List Dictionary) (tables : List Table) (columns : List Column) (place : ℕ) (numbers : Option Numbers) (of : List (List ℕ)) → is_redrawn_at columns place ≡ false → joins numbers columns place of ≡ true →
+    All (IsStillPlace (columns_layout dictionaries tables columns)) (map (place_of_column columns) of)
+still_names dictionaries tables columns place numbers of unchanged h = λ i d lt.
+    let at : i < length of = omega (arith, lt, length-map of (place_of_column columns)) in
+    let each = still_unless (is_redrawn_at columns place) (are_still_names columns of) unchanged (and_parts (is_some numbers) (is_redrawn_at columns place || are_still_names columns of) h).1 in
+    subst (IsStillPlace (columns_layout dictionaries tables columns)) (sym (get_or-map (place_of_column columns) of i [] d at))
+    (still_from_test dictionaries tables columns (place_of_column columns (get_or of i [])) (passes_each (λ name. not (moves_at columns (place_of_column columns name))) of i [] at each))
+
+-- of a column that doesn't change, by what rules ask of its kind
+still_kind : (dictionaries : List Dictionary) (tables : List Table) (columns : List Column) (place : ℕ) (days : Option Days) (numbers : Option Numbers) (kind : Kind) → is_redrawn_at columns place ≡ false →
+    is_still_kind columns kind ≡ true → is_later_date days columns place kind ≡ true → is_total numbers columns place kind ≡ true → CitesStill (columns_layout dictionaries tables columns) (kind_layout dictionaries tables columns kind)
+still_kind dictionaries tables columns place days numbers (kind.Template parts) unchanged h later total = λ i d lt.
     let at : i < length parts = omega (arith, lt, length-map parts (part_layout columns)) in
     subst (IsStillPart (columns_layout dictionaries tables columns)) (sym (get_or-map (part_layout columns) parts i (part.Literal []) d at))
     (still_part dictionaries tables columns (get_or parts i (part.Literal [])) (passes_each (is_still_part columns) parts i (part.Literal []) at h))
-still_kind dictionaries tables columns (kind.Case on branches) h = still_from_test dictionaries tables columns (place_of_column columns on) h
-still_kind dictionaries tables columns _ h = tt
+still_kind dictionaries tables columns place days numbers (kind.Case on branches) unchanged h later total = still_from_test dictionaries tables columns (place_of_column columns on) h
+still_kind dictionaries tables columns place days numbers (kind.After of lo hi) unchanged h later total =
+    let still = not (moves_at columns (place_of_column columns of)) in
+    still_from_test dictionaries tables columns (place_of_column columns of)
+    (still_unless (is_redrawn_at columns place) still unchanged (and_parts (is_after_range lo hi && is_some days) (is_redrawn_at columns place || still) later).1)
+still_kind dictionaries tables columns place days numbers (kind.Sum of) unchanged h later total =
+    still_names dictionaries tables columns place numbers of unchanged (and_parts (nat_le 1 (length of) && nat_le (length of) 8) (joins numbers columns place of) total).1
+still_kind dictionaries tables columns place days numbers (kind.Product of) unchanged h later total =
+    still_names dictionaries tables columns place numbers of unchanged (and_parts (nat_le 2 (length of) && nat_le (length of) 4) (joins numbers columns place of) total).1
+still_kind dictionaries tables columns place days numbers _ unchanged h later total = tt
 
 -- a column that doesn't change cites none that moves
-pub cites_still_columns : (dictionaries : List Dictionary) (tables : List Table) (columns : List Column) (place : ℕ) → place < length columns → cites_still columns place ≡ true →
+pub cites_still_columns : (dictionaries : List Dictionary) (tables : List Table) (columns : List Column) (place : ℕ) (days : Option Days) (numbers : Option Numbers) → place < length columns → cites_still columns place ≡ true →
+    is_later_date days columns place (kind_at columns place) ≡ true → is_total numbers columns place (kind_at columns place) ≡ true →
     (column_at (columns_layout dictionaries tables columns) place).changes ≡ false → CitesStill (columns_layout dictionaries tables columns) (column_at (columns_layout dictionaries tables columns) place).kind
-cites_still_columns dictionaries tables columns place within h none =
+cites_still_columns dictionaries tables columns place days numbers within h later total none =
+    let unchanged = sym (is_redrawn_at-layout dictionaries tables columns place within) ∙ none in
     subst (CitesStill (columns_layout dictionaries tables columns)) (sym (kind_at-layout dictionaries tables columns place within))
-    (still_kind dictionaries tables columns (kind_at columns place)
-    (of_test (is_redrawn_at columns place) (is_still_kind columns (kind_at columns place)) (sym (is_redrawn_at-layout dictionaries tables columns place within) ∙ none) h))
-  where
-    of_test : (changes still : Bool) → changes ≡ false → (changes || still) ≡ true → still ≡ true
-    of_test true still none h = cc
-    of_test false still none h = h
+    (still_kind dictionaries tables columns place days numbers (kind_at columns place) unchanged
+    (still_unless (is_redrawn_at columns place) (is_still_kind columns (kind_at columns place)) unchanged h) later total)
 
 -- ---- nulls
 
@@ -279,3 +314,6 @@ null_limit (kind.Lookup via column) null h = share_from_test null h
 null_limit (kind.List file) null h = share_from_test null h
 null_limit (kind.BornDate start step) null h = share_from_test null h
 null_limit (kind.ChangedDate start step) null h = share_from_test null h
+null_limit (kind.After of lo hi) null h = share_from_test null h
+null_limit (kind.Sum of) null h = share_from_test null h
+null_limit (kind.Product of) null h = share_from_test null h

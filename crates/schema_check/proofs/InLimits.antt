@@ -10,15 +10,16 @@ use Rattle.schema_model.specs.declared.column.Column.{Column}
 use Rattle.schema_model.specs.declared.column.Kind.{Kind}
 use Rattle.schema_model.specs.declared.column.Kind.TheVariants.{Key}
 use Rattle.schema_plan.specs.declared.rules.Rule.{Rule}
-use Rattle.schema_plan.specs.declared.rules.Rule.TheVariants.{Dictionaries, SeedAndUnits, TableCount, Columns, KeyColumn, RowCount, LifeRange, UpdatePeriod, NumberRange, DateRange, PickEntries, SkewRange, LengthRange, TemplateParts, CaseBranches, StillCitations, ReferenceTargets, ReferenceWindows, ParentRows, SpreadWeights, LookupColumns, RowCost, LineSize, ChangesAndNulls, UnitDates, PaddedParts}
+use Rattle.schema_plan.specs.declared.rules.Rule.TheVariants.{Dictionaries, SeedAndUnits, TableCount, Columns, KeyColumn, RowCount, LifeRange, UpdatePeriod, NumberRange, DateRange, PickEntries, SkewRange, LengthRange, TemplateParts, CaseBranches, StillCitations, ReferenceTargets, ReferenceWindows, ParentRows, SpreadWeights, LookupColumns, RowCost, LineSize, ChangesAndNulls, UnitDates, LaterDates, Totals, PaddedParts}
 use Rattle.schema_plan.specs.declared.site.Site.TheVariants.{Whole, OfTable, OfColumn}
 use Rattle.cohort_sizes.specs.Births.{born_count}
+use Rattle.schema_plan.specs.ColumnFacts.{field_facts}
 use Rattle.schema_plan.specs.Counts.{count}
 use Rattle.schema_plan.specs.Dictionaries.{AreWordLists, Dictionary, Project}
 use Rattle.schema_plan.specs.Layout.{ColumnLayout, TableLayout, births_of, column_at, column_layout, key_kind, keys_of_kind, kind_layout, layout_of, span_of, table_at, table_layout}
-use Rattle.schema_plan.specs.Limits.{IsKindInLimits, IsLife, IsLookupInLimits, IsTableInLimits, IsInLimits, IsUnitDateInLimits, IsUpdatePeriod}
+use Rattle.schema_plan.specs.Limits.{IsKindInLimits, IsLife, IsLookupInLimits, IsOfOthersInLimits, IsTableInLimits, IsInLimits, IsUnitDateInLimits, IsUpdatePeriod}
 use Rattle.schema_plan.specs.References.{IsReferenceInLimits, reference_of, references_of}
-use Rattle.schema_plan.specs.Rules.{are_paddings, are_phases, broken_rule, first_broken, rule_number, rules, is_redrawn_at, cites_still, is_between, is_change, is_key, is_key_in_range, is_key_first, is_life, is_null_share, is_one_to_64, is_template, is_unit_date, is_update_period, kind_at, null_at, references_before, schema_table, IsAccepted, Keeps}
+use Rattle.schema_plan.specs.Rules.{are_paddings, are_phases, broken_rule, first_broken, rule_number, rules, is_redrawn_at, cites_still, is_between, is_change, is_key, is_key_in_range, is_key_first, is_later_date, is_life, is_null_share, is_one_to_64, is_template, is_total, is_unit_date, is_update_period, kind_at, null_at, references_before, schema_table, IsAccepted, Keeps}
 use Rattle.schema_plan.specs.Sites.{columns_at}
 use Rattle.schema_plan.specs.TableFacts.{cost, max_line}
 use Rattle.schema_check.proofs.ColumnLimits.{cites_still_columns, columns_layout, filled_from_test, key_never_null, kind_at-layout, kind_in_limits, null_at-layout, null_limit, reference_never_null, unchanged, unit_date_from_test}
@@ -27,6 +28,7 @@ use Rattle.schema_check.proofs.FirstBreak.{none_of_rule}
 use Rattle.schema_check.proofs.FromTests.{count_from_test, least_from_test, limit_from_test}
 use Rattle.schema_check.proofs.Kept.{keeps_from_none, none_at}
 use Rattle.schema_check.proofs.LookupLimits.{lookup_in_limits}
+use Rattle.schema_check.proofs.OtherLimits.{others_from_tests}
 use Rattle.schema_check.proofs.PhaseLemmas.{rates_from_phases}
 use Rattle.schema_check.proofs.ReferenceLimits.{asked_units, each_reference, reference_from_tests}
 use Rattle.schema_check.proofs.RuleLemmas.{columns_at-is}
@@ -54,9 +56,27 @@ no_key : (dictionaries : List Dictionary) (tables : List Table) (columns : List 
 no_key dictionaries tables columns (Key base scramble) h = cc
 no_key dictionaries tables columns _ h = λ e. cc
 
+-- what is asked of one of the first 64 tables
+asked_table : (place : ℕ) (test : Bool) → place < 64 → (nat_le 64 place || test) ≡ true → test ≡ true
+asked_table place test h asked = of_test (nat_le 64 place) refl asked
+  where
+    of_test : (past : Bool) → nat_le 64 place ≡ past → (past || test) ≡ true → test ≡ true
+    of_test true is asked = absurd (omega (arith, leb-true 64 place is))
+    of_test false is asked = asked
+
+later_date_kept : (project : Project) → IsAccepted project → length project.schema.tables ≤ 64 → (i j : ℕ) → i < length project.schema.tables → j < length (columns_at project.schema i) →
+    is_later_date (field_facts (layout_of project) i j).days (columns_at project.schema i) j (kind_at (columns_at project.schema i) j) ≡ true
+later_date_kept project accepted few i j table column =
+    asked_table i _ (omega (arith, table, few)) (keeps project accepted LaterDates refl (OfColumn i j) (table, column))
+
+total_kept : (project : Project) → IsAccepted project → length project.schema.tables ≤ 64 → (i j : ℕ) → i < length project.schema.tables → j < length (columns_at project.schema i) →
+    is_total (field_facts (layout_of project) i j).numbers (columns_at project.schema i) j (kind_at (columns_at project.schema i) j) ≡ true
+total_kept project accepted few i j table column =
+    asked_table i _ (omega (arith, table, few)) (keeps project accepted Totals refl (OfColumn i j) (table, column))
+
 -- a column of an accepted schema, as the layout has it
-column_in_limits : (project : Project) → AreWordLists project.dictionaries → IsAccepted project → (i j : ℕ) → i < length project.schema.tables → j < length (columns_at project.schema i) → (tables : List Table) → IsKindInLimits (columns_layout project.dictionaries tables (columns_at project.schema i)) j (column_at (columns_layout project.dictionaries tables (columns_at project.schema i)) j).kind
-column_in_limits project lists accepted i j table column tables =
+column_in_limits : (project : Project) → AreWordLists project.dictionaries → IsAccepted project → length project.schema.tables ≤ 64 → (i j : ℕ) → i < length project.schema.tables → j < length (columns_at project.schema i) → (tables : List Table) → IsKindInLimits (columns_layout project.dictionaries tables (columns_at project.schema i)) j (column_at (columns_layout project.dictionaries tables (columns_at project.schema i)) j).kind
+column_in_limits project lists accepted few i j table column tables =
     let dictionaries = project.dictionaries in
     let columns = columns_at project.schema i in
     subst (IsKindInLimits (columns_layout dictionaries tables columns) j) (sym (kind_at-layout dictionaries tables columns j column))
@@ -69,7 +89,9 @@ column_in_limits project lists accepted i j table column tables =
     (keeps project accepted LengthRange refl (OfColumn i j) (table, column))
     (keeps project accepted TemplateParts refl (OfColumn i j) (table, column))
     (keeps project accepted CaseBranches refl (OfColumn i j) (table, column))
-    (keeps project accepted SpreadWeights refl (OfColumn i j) (table, column)))
+    (keeps project accepted SpreadWeights refl (OfColumn i j) (table, column))
+    (field_facts (layout_of project) i j).days
+    (later_date_kept project accepted few i j table column))
 
 -- ---- tables
 
@@ -95,8 +117,8 @@ update_in_limits (Some units) h =
     let v = and_parts (int_le (pos 1) units) (int_le units (pos 10000)) h in
     record { some_unit = least_from_test units 1 v.0; unit_limit = limit_from_test units 10000 v.1 }
 
-table_in_limits : (project : Project) → AreWordLists project.dictionaries → IsAccepted project → count project.schema.units ≤ 10000 → (i : ℕ) → i < length project.schema.tables → IsTableInLimits (count project.schema.units) (table_layout project.dictionaries project.schema.tables (schema_table project.schema i))
-table_in_limits project lists accepted units i h =
+table_in_limits : (project : Project) → AreWordLists project.dictionaries → IsAccepted project → length project.schema.tables ≤ 64 → count project.schema.units ≤ 10000 → (i : ℕ) → i < length project.schema.tables → IsTableInLimits (count project.schema.units) (table_layout project.dictionaries project.schema.tables (schema_table project.schema i))
+table_in_limits project lists accepted few units i h =
     let t = schema_table project.schema i in
     let same : columns_at project.schema i ≡ t.columns = columns_at-is project.schema i _ h in
     let v4 : is_one_to_64 (length t.columns) ≡ true = ap (λ columns. is_one_to_64 (length columns)) (sym same) ∙ keeps project accepted Columns refl (OfTable i) h in
@@ -109,6 +131,8 @@ table_in_limits project lists accepted units i h =
     let v26 = λ (j : ℕ) (lt : j < length t.columns). ap (λ columns. is_unit_date project.schema.units (kind_at columns j)) (sym same) ∙ keeps project accepted UnitDates refl (OfColumn i j) (h, subst (λ (columns : List Column). j < length columns) (sym same) lt) in
     let v15 = λ (j : ℕ) (lt : j < length t.columns). ap (λ columns. is_template columns j (kind_at columns j)) (sym same) ∙ keeps project accepted TemplateParts refl (OfColumn i j) (h, subst (λ (columns : List Column). j < length columns) (sym same) lt) in
     let v29 = λ (j : ℕ) (lt : j < length t.columns). ap (λ columns. are_paddings columns (kind_at columns j)) (sym same) ∙ keeps project accepted PaddedParts refl (OfColumn i j) (h, subst (λ (columns : List Column). j < length columns) (sym same) lt) in
+    let v27 = λ (j : ℕ) (lt : j < length t.columns). ap (λ columns. is_later_date (field_facts (layout_of project) i j).days columns j (kind_at columns j)) (sym same) ∙ later_date_kept project accepted few i j h (subst (λ (columns : List Column). j < length columns) (sym same) lt) in
+    let v28 = λ (j : ℕ) (lt : j < length t.columns). ap (λ columns. is_total (field_facts (layout_of project) i j).numbers columns j (kind_at columns j)) (sym same) ∙ total_kept project accepted few i j h (subst (λ (columns : List Column). j < length columns) (sym same) lt) in
     let layouts : length (columns_layout project.dictionaries project.schema.tables t.columns) ≡ length t.columns = length-map t.columns (column_layout project.dictionaries project.schema.tables t.columns) in
     record {
       births = record {
@@ -129,7 +153,7 @@ table_in_limits project lists accepted units i h =
           let within : place < length t.columns = omega (arith, layouts, lt) in
           let at : place < length (columns_at project.schema i) = subst (λ (columns : List Column). place < length columns) (sym same) within in
           subst (λ columns. IsKindInLimits (columns_layout project.dictionaries project.schema.tables columns) place (column_at (columns_layout project.dictionaries project.schema.tables columns) place).kind) same
-          (column_in_limits project lists accepted i place h at project.schema.tables);
+          (column_in_limits project lists accepted few i place h at project.schema.tables);
       unit_dates = λ place lt.
           let within : place < length t.columns = omega (arith, layouts, lt) in
           subst (IsUnitDateInLimits (count project.schema.units)) (sym (kind_at-layout project.dictionaries project.schema.tables t.columns place within))
@@ -145,7 +169,8 @@ table_in_limits project lists accepted units i h =
           unchanged project.dictionaries project.schema.tables t.columns place within (v25 place within).1 none;
       still = λ place lt none.
           let within : place < length t.columns = omega (arith, layouts, lt) in
-          cites_still_columns project.dictionaries project.schema.tables t.columns place within (v17 place within) none;
+          cites_still_columns project.dictionaries project.schema.tables t.columns place (field_facts (layout_of project) i place).days (field_facts (layout_of project) i place).numbers within
+          (v17 place within) (v27 place within) (v28 place within) none;
       reference_never_null = λ place reference lt is.
           let within : place < length t.columns = omega (arith, layouts, lt) in
           null_at-layout project.dictionaries project.schema.tables t.columns place within
@@ -192,13 +217,34 @@ lookups_in_limits project accepted i j h within =
     (subst (IsLookupInLimits (layout_of project).tables (columns_layout dictionaries tables columns) j) (sym (kind_at-layout dictionaries tables columns j column))
     (lookup_in_limits dictionaries tables columns j (omega arith) (kind_at columns j) (keeps project accepted LookupColumns refl (OfColumn i j) (h, column))))
 
+-- each column of a table of an accepted schema that is made of others
+others_in_limits : (project : Project) → IsAccepted project → length project.schema.tables ≤ 64 → (i j : ℕ) → i < length project.schema.tables → j < length (table_at (layout_of project).tables i).columns →
+    IsOfOthersInLimits (layout_of project) i j (column_at (table_at (layout_of project).tables i).columns j).kind
+others_in_limits project accepted few i j h within =
+    let dictionaries = project.dictionaries in
+    let tables = project.schema.tables in
+    let columns = columns_at project.schema i in
+    let t = schema_table project.schema i in
+    let same : columns ≡ t.columns = columns_at-is project.schema i _ h in
+    let at : (table_at (layout_of project).tables i).columns ≡ columns_layout dictionaries tables columns =
+    ap (λ (layout : TableLayout). layout.columns) (table_at-is dictionaries tables i _ h) ∙ ap (columns_layout dictionaries tables) (sym same) in
+    let column : j < length columns = omega (arith, within, ap length at, length-map columns (column_layout dictionaries tables columns)) in
+    let v4 : is_one_to_64 (length columns) ≡ true = keeps project accepted Columns refl (OfTable i) h in
+    let counted = and_parts (nat_le 1 (length columns)) (nat_le (length columns) 64) v4 in
+    let kind_is : (column_at (table_at (layout_of project).tables i).columns j).kind ≡ kind_layout dictionaries tables columns (kind_at columns j) =
+    ap (λ (layouts : List ColumnLayout). (column_at layouts j).kind) at ∙ kind_at-layout dictionaries tables columns j column in
+    subst (IsOfOthersInLimits (layout_of project) i j) (sym kind_is)
+    (others_from_tests project i j columns (kind_at columns j)
+    (record {
+      below = omega (arith, h, length-map tables (table_layout dictionaries tables));
+      within = omega (arith, column, leb-true (length columns) 64 counted.1);
+      kind_is = kind_is;
+    })
+    (later_date_kept project accepted few i j h column) (total_kept project accepted few i j h column))
+
 -- a number of one of the first 64 tables is at most its limit
 within_limit : (place n limit : ℕ) → place < 64 → (nat_le 64 place || nat_le n limit) ≡ true → n ≤ limit
-within_limit place n limit h asked = of_test (nat_le 64 place) refl asked
-  where
-    of_test : (past : Bool) → nat_le 64 place ≡ past → (past || nat_le n limit) ≡ true → n ≤ limit
-    of_test true is asked = absurd (omega (arith, leb-true 64 place is))
-    of_test false is asked = leb-true n limit asked
+within_limit place n limit h asked = leb-true n limit (asked_table place (nat_le n limit) h asked)
 
 pub in_limits : (project : Project) → AreWordLists project.dictionaries → IsAccepted project → IsInLimits project
 in_limits project lists accepted =
@@ -215,9 +261,10 @@ in_limits project lists accepted =
       table_limit = few;
       tables = λ i d h.
           let within : i < length project.schema.tables = omega (arith, h, length-map project.schema.tables (table_layout project.dictionaries project.schema.tables)) in
-          subst (IsTableInLimits (count project.schema.units)) (sym (get_or-map (table_layout project.dictionaries project.schema.tables) project.schema.tables i _ d within)) (table_in_limits project lists accepted last i within);
+          subst (IsTableInLimits (count project.schema.units)) (sym (get_or-map (table_layout project.dictionaries project.schema.tables) project.schema.tables i _ d within)) (table_in_limits project lists accepted few last i within);
       references = λ place h. references_in_limits project accepted few last place h;
       lookups = λ place column h lt. lookups_in_limits project accepted place column h lt;
+      of_others = λ place column h lt. others_in_limits project accepted few place column h lt;
       costs = λ place h. within_limit place (cost (layout_of project) place) 4096 (omega (arith, h, few)) (keeps project accepted RowCost refl (OfTable place) h);
       lines = λ place h. within_limit place (max_line (layout_of project) place) 65536 (omega (arith, h, few)) (keeps project accepted LineSize refl (OfTable place) h);
     }

@@ -10,4 +10,5 @@ pub mod LeafLimits
 pub mod ReferenceLimits
 pub mod ColumnLimits
 pub mod LookupLimits
+pub mod OtherLimits
 pub mod InLimits

@@ -9,12 +9,15 @@ use Rattle.schema_model.specs.declared.table.Schema.{Schema}
 use Rattle.schema_model.specs.declared.table.Table.{Table}
 use Rattle.schema_model.specs.declared.column.Kind.{Kind}
 use Rattle.schema_model.specs.declared.column.Kind.TheVariants as kind
+use Rattle.schema_plan.specs.declared.column_facts.ColumnFacts.{ColumnFacts}
 use Rattle.schema_plan.specs.declared.facts.TableFacts.{TableFacts}
 use Rattle.schema_plan.specs.declared.rules.Rule.{Rule}
 use Rattle.schema_plan.specs.declared.rules.Rule.TheVariants.{RowCost, LineSize}
 use Rattle.schema_plan.specs.declared.site.Site.{Site}
 use Rattle.schema_plan.specs.declared.site.Site.TheVariants.{OfTable}
-use Rattle.schema_plan.specs.Capped.{capped, capped_facts, first_facts, is_known_at_most}
+use Rattle.schema_plan.specs.Capped.{capped, capped_column, capped_facts, first_facts, is_known_at_most}
+use Rattle.schema_plan.specs.ColumnFacts.{column_facts_at, field_facts}
+use Rattle.schema_plan.specs.FactsBefore.{facts_among, facts_in}
 use Rattle.schema_plan.specs.Citations.{leaves_of, names_in_kind, names_in_leaf}
 use Rattle.schema_plan.specs.Counts.{count}
 use Rattle.schema_plan.specs.Dictionaries.{Project}
@@ -23,6 +26,7 @@ use Rattle.schema_plan.specs.Names.{same_text, is_name}
 use Rattle.schema_plan.specs.Rules.{holds, is_new_name, is_new_at}
 use Rattle.schema_plan.specs.Sites.{columns_at}
 use Rattle.schema_plan.specs.TableFacts.{cost, facts_at, max_line}
+use Rattle.schema_plan.proofs.ColumnFactsLemmas.{facts_among-capped}
 use Rattle.schema_plan.proofs.Lists.{list_any-map, map-map}
 
 take-map : {A B : Type 0} (f : A → B) (i : ℕ) (xs : List A) → take i (map f xs) ≡ map f (take i xs)
@@ -84,6 +88,38 @@ pub line_size-is : (project : Project) (table : ℕ) → table < length project.
 line_size-is project table h =
     ap (λ lines. is_known_at_most lines table 65536) (map-map (λ (fact : TableFacts). fact.max_line) (λ place. capped_facts (facts_at (layout_of project) place)) (range_with_len 0 (min (length project.schema.tables) 64)))
     ∙ is_known-range (max_line (layout_of project)) (length project.schema.tables) table 65536 h (omega arith)
+
+-- what is asked of the facts of a column of the first tables is asked of the columns of those tables
+pub known_facts-is : (project : Project) (table column : ℕ) (test : ColumnFacts → Bool) → table < length project.schema.tables → ((facts : ColumnFacts) → test (capped_column facts) ≡ test facts) →
+    (nat_le (length (first_facts project)) table || test (facts_in (map (λ (of : TableFacts). of.columns) (first_facts project)) table column))
+    ≡ (nat_le 64 table || test (field_facts (layout_of project) table column))
+known_facts-is project table column test within same =
+    ap (λ n. nat_le n table || test (facts_in known table column)) (length-map-range_with_len facts 0 (min count 64))
+    ∙ of_test (nat_le 64 table) refl
+  where
+    count : ℕ
+    count = length project.schema.tables
+
+    facts : ℕ → TableFacts
+    facts = λ place. capped_facts (facts_at (layout_of project) place)
+
+    known : List (List ColumnFacts)
+    known = map (λ (of : TableFacts). of.columns) (first_facts project)
+
+    of_test : (past : Bool) → nat_le 64 table ≡ past → (nat_le (min count 64) table || test (facts_in known table column)) ≡ (past || test (field_facts (layout_of project) table column))
+    of_test true h =
+        let is_past : nat_le (min count 64) table ≡ true = grind (arith, nat_tests) in
+        ap (λ t. t || test (facts_in known table column)) is_past
+    of_test false h =
+        let before = leb-false 64 table h in
+        let is_before : nat_le (min count 64) table ≡ false = grind (arith, nat_tests) in
+        let own = column_facts_at (layout_of project) table in
+        ap (λ t. t || test (facts_in known table column)) is_before
+        ∙ ap (λ (all : List (List ColumnFacts)). test (facts_in all table column)) (map-map (λ (of : TableFacts). of.columns) facts (range_with_len 0 (min count 64)))
+        ∙ ap (λ (all : List ColumnFacts). test (facts_among all column))
+        (get_or-map-range_with_len (λ p. map capped_column (column_facts_at (layout_of project) p)) 0 (min count 64) table table [] (omega arith) (omega arith))
+        ∙ ap test (facts_among-capped own column)
+        ∙ same (facts_among own column)
 
 -- the columns of the table at a place
 pub columns_at-is : (schema : Schema) (table : ℕ) (d : Table) → table < length schema.tables → columns_at schema table ≡ (get_or schema.tables table d).columns

@@ -121,7 +121,7 @@ fn is_still_part(columns: &[Column], part: &Part) -> bool
 }
 
 /// Whether the column with a name moves: it changes, or is of a kind that moves.
-fn is_moving(columns: &[Column], name: &Text) -> bool
+pub(crate) fn is_moving(columns: &[Column], name: &Text) -> bool
     ensures { result ≡ moves_at columns.now (place_of_column columns.now name.now) }
 {
     let place = place_of_column(columns, name);
@@ -159,7 +159,12 @@ fn may_change(kind: &Kind) -> bool
 {
     matches!(
         kind,
-        Kind::Leaf(_) | Kind::Template { .. } | Kind::Case { .. }
+        Kind::Leaf(_)
+            | Kind::Template { .. }
+            | Kind::Case { .. }
+            | Kind::After { .. }
+            | Kind::Sum { .. }
+            | Kind::Product { .. }
     )
 }
 

@@ -8,6 +8,7 @@ mod candidate;
 mod checker;
 mod cited_names;
 mod column_rules;
+mod later_date_rules;
 pub mod laws;
 mod leaf_rules;
 mod lookup_rules;
@@ -16,6 +17,7 @@ mod padding_rules;
 mod phase_rules;
 mod reference_rules;
 mod rules;
+mod total_rules;
 mod unit_date_rules;
 
 pub use checker::{CheckFault, check, citations};

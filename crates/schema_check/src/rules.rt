@@ -1,15 +1,17 @@
 //! The rules of a schema as tests of its sites, and the search for the first broken rule.
 
-ghost use Rattle.std.specs.Prelude.{◌≡◌, ◌<◌, ◌&&◌, IfSome, int_le, length, map, pos};
+ghost use Rattle.std.specs.Prelude.{◌≡◌, ◌<◌, ◌&&◌, ◌||◌, IfSome, int_le, length, map, nat_le, pos};
 ghost use Rattle.std.specs.List.{list_any};
 ghost use Rattle.schema_plan.specs.Capped.{is_known_at_most};
+ghost use Rattle.schema_plan.specs.FactsBefore.{facts_in};
 ghost use Rattle.schema_plan.specs.Names.{same_text};
-ghost use Rattle.schema_plan.specs.Rules.{break_in_table, first_break, first_broken, holds, is_between, is_key_first, is_life, is_new_at, is_one_to_64, is_update_period};
+ghost use Rattle.schema_plan.specs.Rules.{break_in_table, first_break, first_broken, holds, is_between, is_key_first, is_later_date, is_life, is_new_at, is_one_to_64, is_total, is_update_period, kind_at};
 ghost use Rattle.schema_plan.specs.Sites.{columns_at, IsSiteOf};
 
 use crate::candidate::Candidate;
 use crate::cited_names::{is_citable_kind, is_supplied_kind};
 use crate::column_rules::{cites_still, is_case, is_change, is_null_share, is_template};
+use crate::later_date_rules::is_later_date;
 use crate::leaf_rules::{
     are_date_ranges, are_length_ranges, are_number_ranges, are_skew_ranges, are_weighted, leaves_of,
 };
@@ -18,6 +20,7 @@ use crate::names::is_name;
 use crate::padding_rules::are_paddings;
 use crate::phase_rules::is_row_count;
 use crate::reference_rules::{has_parents, is_spread, is_target, is_window};
+use crate::total_rules::is_total;
 use crate::unit_date_rules::is_unit_date;
 use schema_model::{Column, Kind, Life, Schema, Table, Text};
 use schema_plan::{Broken, MAX_ITEMS, Rule, Site, TableFacts};
@@ -41,7 +44,7 @@ const MAX_COST: u64 = 4_096;
 const MAX_LINE: u64 = 65_536;
 
 /// The rules in the order in which they are tried.
-const ORDER: [Rule; 27] = [
+const ORDER: [Rule; 29] = [
     Rule::Dictionaries,
     Rule::SeedAndUnits,
     Rule::TableCount,
@@ -68,6 +71,8 @@ const ORDER: [Rule; 27] = [
     Rule::LineSize,
     Rule::ChangesAndNulls,
     Rule::UnitDates,
+    Rule::LaterDates,
+    Rule::Totals,
     Rule::PaddedParts,
 ];
 
@@ -191,6 +196,8 @@ fn holds_of_column(rule: Rule, candidate: &Candidate<'_>, table: usize, column: 
         Rule::LookupColumns => is_lookup(schema.tables.as_slice(), columns, column),
         Rule::ChangesAndNulls => is_null_share(&columns[column]) && is_change(&columns[column]),
         Rule::UnitDates => is_unit_date(schema.units, &columns[column].kind),
+        Rule::LaterDates => keeps_later_dates(candidate.facts(), table, columns, column),
+        Rule::Totals => keeps_totals(candidate.facts(), table, columns, column),
         Rule::PaddedParts => are_paddings(columns, &columns[column].kind),
         _ => true,
     }
@@ -288,4 +295,22 @@ fn is_line_size(facts: &[TableFacts], table: usize) -> bool
     facts
         .get(table)
         .is_none_or(|known| known.max_line <= MAX_LINE)
+}
+
+/// Whether the column at a place keeps the rule of dates after dates, where the facts of its table are known.
+fn keeps_later_dates(facts: &[TableFacts], table: usize, columns: &[Column], column: usize) -> bool
+    requires { column < length columns.now }
+    ensures { result ≡ (nat_le (length facts.now) table
+        || is_later_date (facts_in (map (λ of. of.columns) facts.now) table column).days columns.now column (kind_at columns.now column)) }
+{
+    table >= facts.len() || is_later_date(facts[table].column(column).days, columns, column)
+}
+
+/// Whether the column at a place keeps the rule of sums and products, where the facts of its table are known.
+fn keeps_totals(facts: &[TableFacts], table: usize, columns: &[Column], column: usize) -> bool
+    requires { column < length columns.now }
+    ensures { result ≡ (nat_le (length facts.now) table
+        || is_total (facts_in (map (λ of. of.columns) facts.now) table column).numbers columns.now column (kind_at columns.now column)) }
+{
+    table >= facts.len() || is_total(facts[table].column(column).numbers, columns, column)
 }

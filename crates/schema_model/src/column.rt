@@ -79,6 +79,20 @@ pub enum Kind {
         start: i32,
         step: i64,
     },
+    /// A date from `lo` to `hi` days after the date of the column named `of`.
+    After {
+        of: Text,
+        lo: i64,
+        hi: i64,
+    },
+    /// The sum of the numbers of the named columns.
+    Sum {
+        of: Texts,
+    },
+    /// The product of the numbers of the named columns.
+    Product {
+        of: Texts,
+    },
 }
 
 impl Drop for Kind {
@@ -113,6 +127,8 @@ impl Drop for Kind {
                 drop(column);
             }
             Kind::List { file } => drop(file),
+            Kind::After { of, lo: _, hi: _ } => drop(of),
+            Kind::Sum { of } | Kind::Product { of } => drop(of),
         }
     }
 }

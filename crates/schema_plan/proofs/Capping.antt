@@ -3,7 +3,7 @@ use Rattle.std.proofs.Common.{◌≡◌, ℕ, ◌+◌, ◌<◌, max, List, [], �
 use Rattle.std.specs.List.{sum_by}
 use Rattle.std.proofs.lemmas.List.Sums.{fold_more, sum_by-cons}
 use Rattle.schema_plan.specs.Capped.{capped}
-use Rattle.schema_plan.specs.FieldBounds.{greatest_by}
+use Rattle.schema_plan.specs.FieldSizes.{greatest_by}
 
 -- one more number of a sum
 pub capped_sum_more : {A : Type 0} (number : A → ℕ) (xs : List A) (i : ℕ) (d : A) (sum : ℕ) → i < length xs → sum ≡ capped (sum_by number (take i xs)) → capped (sum + capped (number (get_or xs i d))) ≡ capped (sum_by number (take (i + 1) xs))

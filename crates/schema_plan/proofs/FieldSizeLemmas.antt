@@ -6,30 +6,29 @@ use Rattle.schema_model.specs.declared.column.Column.{Column}
 use Rattle.schema_model.specs.declared.table.Table.{Table}
 use Rattle.schema_plan.specs.Capped.{capped}
 use Rattle.schema_plan.specs.Dictionaries.{Project}
-use Rattle.schema_plan.specs.FieldBounds.{bounds_of, bounds_of_fields}
+use Rattle.schema_plan.specs.FieldSizes.{field_sizes, size_of}
 use Rattle.schema_plan.specs.Layout.{ColumnLayout, Layout, TableLayout, column_at, column_layout, kind_layout, layout_of, no_column, table_at, table_layout}
 use Rattle.schema_plan.specs.Limits.{IsInLimits}
 use Rattle.schema_plan.specs.TableFacts.{max_line}
-use Rattle.schema_plan.specs.declared.field_bounds.FieldBounds.{FieldBounds}
 use Rattle.schema_plan.proofs.FactsLemmas.{table_at-is}
 
--- the bounds of the column at a place, as the layout has it
-abbrev pub bounds_for : Layout → ℕ → ℕ → FieldBounds
-bounds_for layout place column =
-    bounds_of layout.delimiter layout.tables (table_at layout.tables place) (column_at (table_at layout.tables place).columns column).kind
+-- the size of the column at a place, as the layout has it
+abbrev pub size_for : Layout → ℕ → ℕ → ℕ
+size_for layout place column =
+    size_of layout.delimiter layout.tables (table_at layout.tables place).columns (column_at (table_at layout.tables place).columns column).kind
 
 -- a field takes less than its line
-pub field-less : (layout : Layout) (place column : ℕ) → column < length (table_at layout.tables place).columns → (bounds_for layout place column).size < max_line layout place
+pub field-less : (layout : Layout) (place column : ℕ) → column < length (table_at layout.tables place).columns → size_for layout place column < max_line layout place
 unfolding max_line
 field-less layout place column below =
     let table : TableLayout = table_at layout.tables place in
-    let bounds : ColumnLayout → FieldBounds = λ of. bounds_of layout.delimiter layout.tables table of.kind in
-    let fields : List FieldBounds = bounds_of_fields layout.delimiter layout.tables table in
-    let inside : column < length fields = omega (arith, below, length-map table.columns bounds) in
+    let size : ColumnLayout → ℕ = λ of. size_of layout.delimiter layout.tables table.columns of.kind in
+    let sizes : List ℕ = field_sizes layout.delimiter layout.tables table.columns in
+    let inside : column < length sizes = omega (arith, below, length-map table.columns size) in
     omega (
       arith,
-      ap (λ (field : FieldBounds). field.size) (get_or-map bounds table.columns column no_column (bounds no_column) below),
-      get_or-le-sum_by (λ (field : FieldBounds). field.size + 1) fields column (bounds no_column) inside,
+      get_or-map size table.columns column no_column (size no_column) below,
+      get_or-le-sum_by (λ n. n + 1) sizes column (size no_column) inside,
     )
 
 -- a table that a plan finds has as many columns as its layout
@@ -42,22 +41,22 @@ columns-found project place table below table_is =
     ∙ length-map table.columns (column_layout project.dictionaries project.schema.tables table.columns)
 
 -- the table and the column that a plan finds are those of its layout
-pub bounds-found : (project : Project) (place column : ℕ) (table : Table) (own : Column) → place < length project.schema.tables → column < length table.columns →
+pub size-found : (project : Project) (place column : ℕ) (table : Table) (own : Column) → place < length project.schema.tables → column < length table.columns →
     table ≡ get_or project.schema.tables place table → own ≡ get_or table.columns column own →
-    bounds_of (layout_of project).delimiter (layout_of project).tables (table_layout project.dictionaries project.schema.tables table)
+    size_of (layout_of project).delimiter (layout_of project).tables (table_layout project.dictionaries project.schema.tables table).columns
     (kind_layout project.dictionaries project.schema.tables table.columns own.kind)
-    ≡ bounds_for (layout_of project) place column
-bounds-found project place column table own below within table_is own_is =
+    ≡ size_for (layout_of project) place column
+size-found project place column table own below within table_is own_is =
     let layout : Layout = layout_of project in
     let made : Column → ColumnLayout = column_layout project.dictionaries project.schema.tables table.columns in
     let here : table_layout project.dictionaries project.schema.tables table ≡ table_at layout.tables place =
     ap (table_layout project.dictionaries project.schema.tables) table_is ∙ sym (table_at-is project.dictionaries project.schema.tables place table below) in
     let column_is : made own ≡ column_at (map made table.columns) column = ap made own_is ∙ sym (get_or-map made table.columns column own no_column within) in
-    ap (λ (of : ColumnLayout). bounds_of layout.delimiter layout.tables (table_layout project.dictionaries project.schema.tables table) of.kind) column_is
-    ∙ ap (λ (of : TableLayout). bounds_of layout.delimiter layout.tables of (column_at of.columns column).kind) here
+    ap (λ (of : ColumnLayout). size_of layout.delimiter layout.tables (table_layout project.dictionaries project.schema.tables table).columns of.kind) column_is
+    ∙ ap (λ (of : TableLayout). size_of layout.delimiter layout.tables of.columns (column_at of.columns column).kind) here
 
--- no bound of an accepted schema is past the end of 64 bits
+-- no size of an accepted schema is past the end of 64 bits
 pub field-uncapped : (project : Project) → IsInLimits project → (place column : ℕ) → place < length project.schema.tables → column < length (table_at (layout_of project).tables place).columns →
-    capped (bounds_for (layout_of project) place column).size ≡ (bounds_for (layout_of project) place column).size
+    capped (size_for (layout_of project) place column) ≡ size_for (layout_of project) place column
 field-uncapped project limits place column below within =
     omega (arith, field-less (layout_of project) place column within, limits.lines place below)

@@ -16,7 +16,7 @@ use Rattle.schema_model.specs.declared.column.Window.{Window}
 use Rattle.schema_plan.specs.declared.layout.Span.{Span}
 use Rattle.schema_plan.specs.declared.lineage.Lineage.{Lineage}
 use Rattle.schema_plan.specs.Capped.{capped, capped_lineage}
-use Rattle.schema_plan.specs.Layout.{PartLayout, literal_part, cited_part, KindLayout, key_kind, born_kind, changed_kind, leaf_kind, template_kind, case_kind, reference_kind, lookup_kind, list_kind, unit_date_kind, TableLayout, ColumnLayout, no_table, column_at, table_at, column_layout, is_drawn_deal, kind_layout, place_of_table, table_layout, window_layout}
+use Rattle.schema_plan.specs.Layout.{PartLayout, literal_part, cited_part, KindLayout, key_kind, born_kind, changed_kind, leaf_kind, template_kind, case_kind, reference_kind, lookup_kind, list_kind, unit_date_kind, after_kind, sum_kind, product_kind, TableLayout, ColumnLayout, no_table, column_at, table_at, column_layout, is_drawn_deal, kind_layout, place_of_table, table_layout, window_layout}
 use Rattle.schema_plan.specs.Lineage.{choice_cost, endless, lineage_at, lineage_of, lineages, null_cost_of, null_cost_of_field, null_cost_of_line, null_cost_of_part, own_lineage, with_kind, with_loss, with_parent}
 use Rattle.schema_plan.specs.Dictionaries.{Dictionary}
 use Rattle.schema_plan.proofs.Capping.{capped_sum-same}
@@ -25,7 +25,7 @@ use Rattle.schema_plan.proofs.Lists.{length-in_turn, get_or-in_turn}
 pub lineage_at-capped : (given : List Lineage) (place : ℕ) → lineage_at (map capped_lineage given) place ≡ capped_lineage (lineage_at given place)
 lineage_at-capped given place = N.get_or-map capped_lineage given place endless
 
-capped-capped : (n : ℕ) → capped (capped n) ≡ capped n
+pub capped-capped : (n : ℕ) → capped (capped n) ≡ capped n
 capped-capped n = omega arith
 
 -- lineages with the same costs, capped
@@ -114,6 +114,9 @@ null_cost_of-capped given (case_kind on branches) = refl
 null_cost_of-capped given (lookup_kind via parent column) = refl
 null_cost_of-capped given (list_kind words) = refl
 null_cost_of-capped given (unit_date_kind changed start step) = refl
+null_cost_of-capped given (after_kind of lo hi) = refl
+null_cost_of-capped given (sum_kind of) = refl
+null_cost_of-capped given (product_kind of) = refl
 
 null_cost_of_part-capped : (given : List Lineage) (columns : List ColumnLayout) (part : PartLayout) → capped (null_cost_of_part (map capped_lineage given) columns part) ≡ capped (null_cost_of_part given columns part)
 null_cost_of_part-capped given columns (literal_part bytes) = refl
@@ -134,6 +137,9 @@ null_cost_of_field-capped given columns (case_kind on branches) = refl
 null_cost_of_field-capped given columns (lookup_kind via parent column) = refl
 null_cost_of_field-capped given columns (list_kind words) = refl
 null_cost_of_field-capped given columns (unit_date_kind changed start step) = refl
+null_cost_of_field-capped given columns (after_kind of lo hi) = refl
+null_cost_of_field-capped given columns (sum_kind of) = refl
+null_cost_of_field-capped given columns (product_kind of) = refl
 
 null_cost_of_line-capped : (given : List Lineage) (columns : List ColumnLayout) → capped (null_cost_of_line (map capped_lineage given) columns) ≡ capped (null_cost_of_line given columns)
 null_cost_of_line-capped given columns =

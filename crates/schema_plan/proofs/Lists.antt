@@ -1,7 +1,8 @@
 -- Lists made of numbers in a row, and in turn.
-use Rattle.std.proofs.Common.{◌≡◌, Bool, ◌||◌, ℕ, zero, suc, ◌<◌, List, [], ◌∷◌, ◌++◌, length, map, get_or, take, refl, sym, ap, ◌∙◌, arith, append_assoc}
+use Rattle.std.proofs.Common.{◌≡◌, Bool, ◌||◌, ℕ, zero, suc, ◌+◌, ◌<◌, List, [], ◌∷◌, ◌++◌, length, map, get_or, take, refl, sym, ap, ◌∙◌, arith, append_assoc}
 use Rattle.std.specs.List.{list_any, range_with_len}
-use Rattle.std.proofs.lemmas.List.{append-nil}
+use Rattle.std.proofs.Math.ListN.{set}
+use Rattle.std.proofs.lemmas.List.{append-nil, map-append, take_more, take_more_set}
 use Rattle.std.proofs.lemmas.List.FromFn.{fill_by_all, length-map-range_with_len, get_or-map-range_with_len}
 use Rattle.schema_plan.specs.InTurn.{in_turn}
 
@@ -33,3 +34,15 @@ get_or-in_turn give xs i d e h = in_turn_from give [] xs i d e h
 pub list_any-map : {A B : Type 0} (test : B → Bool) (f : A → B) (xs : List A) → list_any test (map f xs) ≡ list_any (λ x. test (f x)) xs
 list_any-map test f [] = refl
 list_any-map test f (x ∷ xs) = ap (λ rest. test (f x) || rest) (list_any-map test f xs)
+
+-- one more item of a list that is filled with what comes of some items in turn, as it is kept
+pub next_in_turn : {A B C : Type 0} (give : List B → A → B) (keep : B → C) (xs : List A) (filled : List C) (i : ℕ) (d : B) (e : A) (next : C) → i < length xs → i < length filled →
+    take i filled ≡ map keep (take i (in_turn give [] xs)) → next ≡ keep (give (take i (in_turn give [] xs)) (get_or xs i e)) →
+    take (i + 1) (set filled i next) ≡ map keep (take (i + 1) (in_turn give [] xs))
+next_in_turn give keep xs filled i d e next within room so_far next_is =
+    let all = in_turn give [] xs in
+    let inside : i < length all = omega (arith, within, length-in_turn give [] xs) in
+    take_more_set filled i next room
+    ∙ ap (λ front. front ++ next ∷ []) so_far
+    ∙ ap (λ one. map keep (take i all) ++ one ∷ []) (next_is ∙ ap keep (sym (get_or-in_turn give xs i d e within)))
+    ∙ sym (ap (map keep) (take_more all i d inside) ∙ map-append keep (take i all) (get_or all i d ∷ []))

@@ -1,22 +1,33 @@
 -- What a plan keeps of the table at a place.
-use Rattle.std.proofs.Common.{◌≡◌, ℕ, pos, zero, suc, ◌<◌, ◌≤◌, All, None, min, max, List, [], ◌∷◌, length, map, get_or, refl, subst, sym, ap, ◌∙◌, arith}
+use Rattle.std.proofs.Common.{◌≡◌, ℕ, pos, zero, suc, ◌+◌, ◌^◌, ◌<◌, ◌≤◌, All, None, min, max, List, [], ◌∷◌, length, map, get_or, refl, subst, sym, ap, ◌∙◌, arith}
 use Rattle.std.specs.List.{fold, range_with_len}
 use Rattle.std.proofs.lemmas.List.{get_or-map, length-map}
 use Rattle.std.proofs.lemmas.List.FromFn.{fill_by_all, get_or-map-range_with_len, length-map-range_with_len}
 use Rattle.std.proofs.lemmas.List.Folds.{fold-map}
+use Rattle.std.proofs.lemmas.List.Sums.{sum_by-cons}
 use Rattle.cohort_sizes.specs.Births.{Births}
 use Rattle.cohort_sizes.specs.Kept.{BirthsUpTo}
 use Rattle.schema_model.specs.declared.table.Table.{Table}
+use Rattle.schema_plan.specs.declared.column_facts.ColumnFacts.{ColumnFacts}
 use Rattle.schema_plan.specs.declared.facts.TableFacts.{TableFacts}
 use Rattle.schema_plan.specs.Counts.{count}
-use Rattle.schema_plan.specs.Capped.{capped, capped_facts, capped_lineage, first_facts}
+use Rattle.schema_plan.specs.Capped.{capped, capped_column, capped_facts, capped_lineage, first_facts}
 use Rattle.schema_plan.specs.Dictionaries.{Project}
-use Rattle.schema_plan.specs.FieldBounds.{greatest_by}
+use Rattle.schema_plan.specs.FieldSizes.{greatest_by}
 use Rattle.schema_plan.specs.Layout.{Layout, TableLayout, births_of, layout_of, no_table, table_at, table_layout}
 use Rattle.schema_plan.specs.Limits.{AreBirthsInLimits, IsInLimits, IsTableInLimits}
 use Rattle.schema_plan.specs.Planned.{births_through}
-use Rattle.schema_plan.specs.TableFacts.{facts_at, line_cost, line_of_table, max_line, reach}
+use Rattle.schema_plan.specs.TableFacts.{facts_at, line_cost, line_of_table, max_line, reach, sum_of_costs}
 use Rattle.schema_plan.proofs.Lists.{map-same}
+
+-- no cost of some columns is past the end of 64 bits where their sum isn't
+costs_whole : (columns : List ColumnFacts) → sum_of_costs columns < 2 ^ 64 → map capped_column columns ≡ columns
+costs_whole [] h = refl
+costs_whole (facts ∷ others) h =
+    let parts : sum_of_costs (facts ∷ others) ≡ facts.cost + sum_of_costs others = sum_by-cons (λ (facts : ColumnFacts). facts.cost) facts others in
+    let whole : capped facts.cost ≡ facts.cost = omega (arith, h, parts) in
+    ap (λ cost. record facts { cost = cost } ∷ map capped_column others) whole
+    ∙ ap (λ rest. facts ∷ rest) (costs_whole others (omega (arith, h, parts)))
 
 -- no fact of an accepted schema is past the end of 64 bits
 not_capped : (project : Project) → IsInLimits project → (place : ℕ) → place < length project.schema.tables → capped_facts (facts_at (layout_of project) place) ≡ facts_at (layout_of project) place
@@ -28,7 +39,9 @@ not_capped project limits place h =
     let loss : capped facts.lineage.loss_cost ≡ facts.lineage.loss_cost = omega (arith, limits.costs place h) in
     let null : capped facts.lineage.null_cost ≡ facts.lineage.null_cost = omega (arith, limits.costs place h) in
     let line : capped facts.max_line ≡ facts.max_line = omega (arith, limits.lines place h) in
-    ap (λ n. record facts { lineage = record (capped_lineage facts.lineage) { death_cost = n }; cost = capped facts.cost; max_line = capped facts.max_line }) death
+    let columns : map capped_column facts.columns ≡ facts.columns = costs_whole facts.columns (omega (arith, limits.costs place h)) in
+    ap (λ all. record (capped_facts facts) { columns = all }) columns
+    ∙ ap (λ n. record (capped_facts facts) { columns = facts.columns; lineage = record (capped_lineage facts.lineage) { death_cost = n } }) death
     ∙ ap (λ n. record facts { lineage = record facts.lineage { loss_cost = n; null_cost = capped facts.lineage.null_cost }; cost = capped facts.cost; max_line = capped facts.max_line }) loss
     ∙ ap (λ n. record facts { lineage = record facts.lineage { null_cost = n }; cost = capped facts.cost; max_line = capped facts.max_line }) null
     ∙ ap (λ n. record facts { cost = n; max_line = capped facts.max_line }) cost

@@ -15,7 +15,7 @@ use Rattle.schema_plan.specs.Counts.{count}
 use Rattle.schema_plan.specs.Delimiters.{delimiter_byte}
 use Rattle.schema_plan.specs.Dictionaries.{Dictionary, Project}
 use Rattle.schema_plan.specs.Layout.{ColumnLayout, TableLayout, column_at, column_layout, kind_layout, layout_of, leaf_layout, no_column, no_table, table_at, table_layout, table_layouts}
-use Rattle.schema_plan.specs.Limits.{CanBeReady, IsInLimits, IsKindInLimits, IsLeafInLimits, IsListOf, IsSpreadOf, IsTableInLimits}
+use Rattle.schema_plan.specs.Limits.{CanBeReady, IsAfterOf, IsInLimits, IsKindInLimits, IsLeafInLimits, IsListOf, IsSpreadOf, IsTableInLimits}
 use Rattle.schema_plan.specs.Ready.{ready_column, ready_columns}
 use Rattle.schema_plan.proofs.FactsLemmas.{table_at-is}
 use Rattle.schema_plan.proofs.Lists.{map-map}
@@ -39,6 +39,10 @@ list_in_limits : (dictionaries : List Dictionary) (tables : List Table) (columns
 list_in_limits dictionaries tables columns layouts place (kind.List file) h = h
 list_in_limits dictionaries tables columns layouts place _ h = tt
 
+after_in_limits : (dictionaries : List Dictionary) (tables : List Table) (columns : List Column) (layouts : List ColumnLayout) (place : ℕ) (kind : Kind) → IsKindInLimits layouts place (kind_layout dictionaries tables columns kind) → IsAfterOf kind
+after_in_limits dictionaries tables columns layouts place (kind.After of lo hi) h = h
+after_in_limits dictionaries tables columns layouts place _ h = tt
+
 -- the columns of a table of a schema within its limits
 pub columns_in_limits : (project : Project) (place : ℕ) (table : Table) → IsInLimits project → place < length project.schema.tables → table ≡ get_or project.schema.tables place table → All (λ (column : Column). CanBeReady project.dictionaries column.kind) table.columns
 columns_in_limits project place table limits within is = λ i d h.
@@ -57,6 +61,7 @@ columns_in_limits project place table limits within is = λ i d h.
       drawn = leaves_in_limits dictionaries tables table.columns layouts i kind within_limits;
       spread = spread_in_limits dictionaries tables table.columns layouts i kind within_limits;
       listed = list_in_limits dictionaries tables table.columns layouts i kind within_limits;
+      after = after_in_limits dictionaries tables table.columns layouts i kind within_limits;
     }
 
 -- ---- columns

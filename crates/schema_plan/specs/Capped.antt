@@ -1,7 +1,7 @@
 -- Numbers as the code adds them up while nothing bounds them: those past the end of 64 bits stand at the end.
 use Rattle.std.specs.Prelude.{ℕ, ◌-◌, ◌^◌, min, Bool, ◌||◌, nat_le, List, length, map, slice_index}
 use Rattle.std.specs.List.{range_with_len}
-use Rattle.schema_plan.specs.declared.field_bounds.FieldBounds.{FieldBounds}
+use Rattle.schema_plan.specs.declared.column_facts.ColumnFacts.{ColumnFacts}
 use Rattle.schema_plan.specs.declared.lineage.Lineage.{Lineage}
 use Rattle.schema_plan.specs.declared.facts.TableFacts.{TableFacts}
 use Rattle.schema_plan.specs.Dictionaries.{Project}
@@ -12,8 +12,8 @@ use Rattle.schema_plan.specs.TableFacts.{facts_at}
 abbrev pub capped : ℕ → ℕ
 capped n = min n (2 ^ 64 - 1)
 
-abbrev pub capped_bounds : FieldBounds → FieldBounds
-capped_bounds bounds = record { size = capped bounds.size; permutations = capped bounds.permutations }
+abbrev pub capped_column : ColumnFacts → ColumnFacts
+capped_column facts = record facts { cost = capped facts.cost }
 
 abbrev pub capped_lineage : Lineage → Lineage
 capped_lineage lineage = record lineage {
@@ -25,6 +25,7 @@ capped_lineage lineage = record lineage {
 abbrev pub capped_facts : TableFacts → TableFacts
 capped_facts facts = record facts {
   lineage = capped_lineage facts.lineage;
+  columns = map capped_column facts.columns;
   cost = capped facts.cost;
   max_line = capped facts.max_line;
 }

@@ -55,7 +55,8 @@ pub data PartLayout : Type 0 where
 -- a drawn order; a lookup the places of its reference column, of that one's parent and of the parent's column; a list the words that its
 -- rows take in turn;
 -- a date of units whether it goes by the unit of the row's last change, not by that of its birth, the day of unit 0, and the days from one
--- unit to the next
+-- unit to the next; a date after a date the place of the column that it follows, and by how many days at least and at most; a sum and a
+-- product the places of the columns whose numbers they join, a place for each time that one is named
 pub data KindLayout : Type 0 where
   key_kind : KindLayout
   born_kind : KindLayout
@@ -67,6 +68,9 @@ pub data KindLayout : Type 0 where
   lookup_kind : ℕ → ℕ → ℕ → KindLayout
   list_kind : WordList → KindLayout
   unit_date_kind : Bool → ℤ → ℕ → KindLayout
+  after_kind : ℕ → ℤ → ℤ → KindLayout
+  sum_kind : List ℕ → KindLayout
+  product_kind : List ℕ → KindLayout
 
 -- a column: what it holds, whether it is drawn anew where a row changes, and how many of a thousand fields are null
 pub record ColumnLayout : Type 0 where
@@ -189,6 +193,9 @@ kind_layout dictionaries tables columns (kind.Lookup via column) =
 kind_layout dictionaries tables columns (kind.List file) = list_kind (words_named dictionaries file)
 kind_layout dictionaries tables columns (kind.BornDate start step) = unit_date_kind false start (count step)
 kind_layout dictionaries tables columns (kind.ChangedDate start step) = unit_date_kind true start (count step)
+kind_layout dictionaries tables columns (kind.After of lo hi) = after_kind (place_of_column columns of) lo hi
+kind_layout dictionaries tables columns (kind.Sum of) = sum_kind (map (place_of_column columns) of)
+kind_layout dictionaries tables columns (kind.Product of) = product_kind (map (place_of_column columns) of)
 
 abbrev pub column_layout : List Dictionary → List Table → List Column → Column → ColumnLayout
 column_layout dictionaries tables columns column = record {

@@ -8,7 +8,13 @@ pub mod Layout
 pub mod InTurn
 pub mod Lineage
 pub mod References
-pub mod FieldBounds
+pub mod FieldSizes
+pub mod FactsBefore
+pub mod FieldCosts
+pub mod Days
+pub mod Numbers
+pub mod ColumnFacts
+pub mod Ends
 pub mod TableFacts
 pub mod Sites
 pub mod Rules

@@ -1,5 +1,5 @@
 -- What the rules give for the numbers of an accepted schema.
-use Rattle.std.specs.Prelude.{◌≡◌, ◌≢◌, Bool, true, false, ◌||◌, ℕ, ℤ, suc, pos, neg_ℤ, ◌-◌, ◌*◌, ◌^◌, ◌<◌, ◌≤◌, ◌+ℤ◌, ◌-ℤ◌, ◌<ℤ◌, ◌≤ℤ◌, List, length, map, sum, All, IfSome, Some, ⊤}
+use Rattle.std.specs.Prelude.{◌≡◌, ◌≢◌, Bool, true, false, ◌||◌, ℕ, ℤ, suc, pos, neg_ℤ, ◌-◌, ◌*◌, ◌^◌, ◌<◌, ◌≤◌, ◌+ℤ◌, ◌-ℤ◌, ◌<ℤ◌, ◌≤ℤ◌, List, length, map, sum, All, IfSome, Some, is_some, ⊤}
 use Rattle.std.specs.Str.{chars}
 use Rattle.dictionaries.specs.WordList.{IsWordList}
 use Rattle.schema_model.specs.declared.column.Kind.{Kind}
@@ -8,9 +8,10 @@ use Rattle.schema_plan.specs.declared.layout.Span.{Span}
 use Rattle.schema_plan.specs.Citations.{leaves_of}
 use Rattle.cohort_sizes.specs.Births.{Births, born_count}
 use Rattle.cohort_sizes.specs.Rates.{AreRates}
+use Rattle.schema_plan.specs.ColumnFacts.{field_facts}
 use Rattle.schema_plan.specs.Counts.{count}
 use Rattle.schema_plan.specs.Dictionaries.{Dictionary, Project, words_named}
-use Rattle.schema_plan.specs.Layout.{LeafLayout, int_leaf, fixed_leaf, date_leaf, pick_leaf, skew_leaf, dict_leaf, words_leaf, chars_leaf, uuid_leaf, PartLayout, literal_part, cited_part, KindLayout, key_kind, born_kind, changed_kind, leaf_kind, template_kind, case_kind, reference_kind, lookup_kind, ColumnLayout, column_at, TableLayout, layout_of, leaf_layout, table_at, list_kind, unit_date_kind}
+use Rattle.schema_plan.specs.Layout.{LeafLayout, int_leaf, fixed_leaf, date_leaf, pick_leaf, skew_leaf, dict_leaf, words_leaf, chars_leaf, uuid_leaf, PartLayout, literal_part, cited_part, KindLayout, key_kind, born_kind, changed_kind, leaf_kind, template_kind, case_kind, reference_kind, lookup_kind, ColumnLayout, column_at, Layout, TableLayout, layout_of, leaf_layout, table_at, list_kind, unit_date_kind, after_kind, sum_kind, product_kind}
 use Rattle.schema_plan.specs.References.{IsReferenceInLimits, IsSpread, Reference, reference_at, references_of}
 use Rattle.schema_plan.specs.TableFacts.{cost, max_line}
 
@@ -67,6 +68,12 @@ IsLeafInLimits (words_leaf words lo hi) = IsWordList words × IsLengthRange lo h
 IsLeafInLimits (chars_leaf alphabet lo hi) = IsAlphabet alphabet × IsLengthRange lo hi
 IsLeafInLimits uuid_leaf = ⊤
 
+-- by how many days a date follows another: from lo to hi, at most 36,525, before or after
+pub record IsAfterRange (lo hi : ℤ) : Type 0 where
+  pub least : neg_ℤ (pos 36525) ≤ℤ lo
+  pub ordered : lo ≤ℤ hi
+  pub most : hi ≤ℤ pos 36525
+
 -- a kind that a template may cite
 abbrev pub is_cited : KindLayout → Bool
 is_cited (template_kind parts) = false
@@ -74,7 +81,8 @@ is_cited (case_kind on branches) = false
 is_cited (lookup_kind via parent column) = false
 is_cited _ = true
 
--- what is made ready of a kind: what it draws is within its limits, and so is its spread, and so are the words of a list
+-- what is made ready of a kind: what it draws is within its limits, and so is its spread, and so are the words of a list, and so is by
+-- how many days a date follows another
 abbrev pub IsSpreadOf : Kind → Type 0
 IsSpreadOf (kind.Ref table window spread on_delete deal) = IsSpread (map count spread)
 IsSpreadOf _ = ⊤
@@ -83,10 +91,15 @@ abbrev pub IsListOf : List Dictionary → Kind → Type 0
 IsListOf dictionaries (kind.List file) = IsWordList (words_named dictionaries file)
 IsListOf dictionaries _ = ⊤
 
+abbrev pub IsAfterOf : Kind → Type 0
+IsAfterOf (kind.After of lo hi) = IsAfterRange lo hi
+IsAfterOf _ = ⊤
+
 pub record CanBeReady (dictionaries : List Dictionary) (kind : Kind) : Type 0 where
   pub drawn : All (λ leaf. IsLeafInLimits (leaf_layout dictionaries leaf)) (leaves_of kind)
   pub spread : IsSpreadOf kind
   pub listed : IsListOf dictionaries kind
+  pub after : IsAfterOf kind
 
 -- a part of the template at a place: a text, or an earlier column that may be cited
 abbrev pub IsPart : List ColumnLayout → ℕ → PartLayout → Type 0
@@ -126,6 +139,7 @@ IsKindInLimits columns place (template_kind parts) = AreParts columns place part
 IsKindInLimits columns place (case_kind on branches) = IsCase columns place on branches
 IsKindInLimits columns place (reference_kind parent window spread nulls drawn) = IsSpread spread
 IsKindInLimits columns place (list_kind words) = IsWordList words
+IsKindInLimits columns place (after_kind of lo hi) = IsAfterRange lo hi
 IsKindInLimits columns place _ = ⊤
 
 -- the dates of units up to a last one are of the years 1 to 9999
@@ -166,6 +180,9 @@ abbrev pub can_change : KindLayout → Bool
 can_change (leaf_kind leaf) = true
 can_change (template_kind parts) = true
 can_change (case_kind on branches) = true
+can_change (after_kind of lo hi) = true
+can_change (sum_kind of) = true
+can_change (product_kind of) = true
 can_change _ = false
 
 -- a kind whose fields move though nothing is drawn anew: the unit of a row's last change, the date of that unit, and a reference that
@@ -185,10 +202,17 @@ abbrev pub IsStillPart : List ColumnLayout → PartLayout → Type 0
 IsStillPart columns (literal_part bytes) = ⊤
 IsStillPart columns (cited_part column width) = moves (column_at columns column) ≡ false
 
+-- the column at a place doesn't move
+abbrev pub IsStillPlace : List ColumnLayout → ℕ → Type 0
+IsStillPlace columns column = moves (column_at columns column) ≡ false
+
 -- a kind that cites no column that moves
 abbrev pub CitesStill : List ColumnLayout → KindLayout → Type 0
 CitesStill columns (template_kind parts) = All (IsStillPart columns) parts
 CitesStill columns (case_kind on branches) = moves (column_at columns on) ≡ false
+CitesStill columns (after_kind of lo hi) = moves (column_at columns of) ≡ false
+CitesStill columns (sum_kind of) = All (IsStillPlace columns) of
+CitesStill columns (product_kind of) = All (IsStillPlace columns) of
 CitesStill columns _ = ⊤
 
 -- a column that may be looked up: it doesn't move and is no lookup
@@ -207,6 +231,25 @@ pub record IsLookup (tables : List TableLayout) (columns : List ColumnLayout) (p
 abbrev pub IsLookupInLimits : List TableLayout → List ColumnLayout → ℕ → KindLayout → Type 0
 IsLookupInLimits tables columns place (lookup_kind via parent column) = IsLookup tables columns place via parent column
 IsLookupInLimits tables columns place _ = ⊤
+
+-- a date after that of a dated column that stands before it
+pub record IsLaterDate (layout : Layout) (table column of : ℕ) : Type 0 where
+  pub earlier : of < column
+  pub dated : is_some (field_facts layout table column).days ≡ true
+
+-- a sum or a product of numeric columns that stand before it
+pub record IsTotal (layout : Layout) (table column : ℕ) (of : List ℕ) : Type 0 where
+  pub some_operand : 1 ≤ length of
+  pub operand_limit : length of ≤ 8
+  pub earlier : All (λ operand. operand < column) of
+  pub numeric : is_some (field_facts layout table column).numbers ≡ true
+
+-- the column at a place in the table at a place, where it is made of other columns' dates or numbers
+abbrev pub IsOfOthersInLimits : Layout → ℕ → ℕ → KindLayout → Type 0
+IsOfOthersInLimits layout table column (after_kind of lo hi) = IsLaterDate layout table column of
+IsOfOthersInLimits layout table column (sum_kind of) = IsTotal layout table column of
+IsOfOthersInLimits layout table column (product_kind of) = IsTotal layout table column of
+IsOfOthersInLimits layout table column _ = ⊤
 
 -- a number of units that is at least one, from its least to its most
 pub record IsSpan (span : Span) : Type 0 where
@@ -259,5 +302,7 @@ pub record IsInLimits (project : Project) : Type 0 where
       All (IsReferenceInLimits (count project.schema.units) (layout_of project).tables place) (references_of (table_at (layout_of project).tables place))
   pub lookups : (place column : ℕ) → place < length project.schema.tables → column < length (table_at (layout_of project).tables place).columns →
       IsLookupInLimits (layout_of project).tables (table_at (layout_of project).tables place).columns column (column_at (table_at (layout_of project).tables place).columns column).kind
+  pub of_others : (place column : ℕ) → place < length project.schema.tables → column < length (table_at (layout_of project).tables place).columns →
+      IsOfOthersInLimits (layout_of project) place column (column_at (table_at (layout_of project).tables place).columns column).kind
   pub costs : (place : ℕ) → place < length project.schema.tables → cost (layout_of project) place ≤ 4096
   pub lines : (place : ℕ) → place < length project.schema.tables → max_line (layout_of project) place ≤ 65536

@@ -12,7 +12,7 @@ use Rattle.schema_plan.specs.declared.ready.ReadyReference.{ReadyReference}
 use Rattle.schema_plan.specs.declared.ready.ReadyLeaf.{ReadyLeaf}
 use Rattle.schema_plan.specs.declared.ready.ReadyLeaf.TheVariants as leaf
 use Rattle.schema_plan.specs.Choices.{choices}
-use Rattle.schema_plan.specs.Layout.{LeafLayout, int_leaf, fixed_leaf, date_leaf, pick_leaf, skew_leaf, dict_leaf, words_leaf, chars_leaf, uuid_leaf, PartLayout, literal_part, cited_part, KindLayout, key_kind, born_kind, changed_kind, leaf_kind, template_kind, case_kind, reference_kind, lookup_kind, ColumnLayout, Layout, table_at, list_kind, unit_date_kind}
+use Rattle.schema_plan.specs.Layout.{LeafLayout, int_leaf, fixed_leaf, date_leaf, pick_leaf, skew_leaf, dict_leaf, words_leaf, chars_leaf, uuid_leaf, PartLayout, literal_part, cited_part, KindLayout, key_kind, born_kind, changed_kind, leaf_kind, template_kind, case_kind, reference_kind, lookup_kind, ColumnLayout, Layout, table_at, list_kind, unit_date_kind, after_kind, sum_kind, product_kind}
 use Rattle.schema_plan.specs.ReadyWords.{written_words}
 
 -- a value that is drawn for a field alone: the number of choices of a range, the weights with their sum, entries as they are written
@@ -51,6 +51,9 @@ ready_kind delimiter (reference_kind parent window spread nulls drawn) = kind.Re
 ready_kind delimiter (lookup_kind via parent column) = kind.Lookup (record { via = via; parent = parent; column = column })
 ready_kind delimiter (list_kind words) = kind.List (record { words = written_words delimiter words; count = length words.entries })
 ready_kind delimiter (unit_date_kind changed start step) = kind.UnitDate (record { changed = changed; start = start; step = step })
+ready_kind delimiter (after_kind of lo hi) = kind.After (record { of = of; lo = lo; hi = hi; choices = choices lo hi 1 })
+ready_kind delimiter (sum_kind of) = kind.Sum of
+ready_kind delimiter (product_kind of) = kind.Product of
 
 -- a column
 abbrev pub ready_column : ℕ → ColumnLayout → ReadyColumn

@@ -19,12 +19,15 @@ use Rattle.schema_model.specs.declared.column.Part.TheVariants as part
 use Rattle.schema_model.specs.declared.column.Window.{Window}
 use Rattle.schema_model.specs.declared.column.Window.TheVariants as window
 use Rattle.schema_plan.specs.declared.broken.Broken.{Broken}
+use Rattle.schema_plan.specs.declared.days.Days.{Days}
+use Rattle.schema_plan.specs.declared.numbers.Numbers.{Numbers}
 use Rattle.cohort_sizes.specs.Births.{Births, born_count, cohort_size}
 use Rattle.schema_plan.specs.declared.rules.Rule.{Rule}
-use Rattle.schema_plan.specs.declared.rules.Rule.TheVariants.{Dictionaries, CitedNames, SeedAndUnits, TableCount, TableNames, Columns, KeyColumn, RowCount, LifeRange, UpdatePeriod, NumberRange, DateRange, PickEntries, SkewRange, LengthRange, TemplateParts, CaseBranches, StillCitations, ReferenceTargets, ReferenceWindows, ParentRows, SpreadWeights, LookupColumns, RowCost, LineSize, ChangesAndNulls, UnitDates, PaddedParts}
+use Rattle.schema_plan.specs.declared.rules.Rule.TheVariants.{Dictionaries, CitedNames, SeedAndUnits, TableCount, TableNames, Columns, KeyColumn, RowCount, LifeRange, UpdatePeriod, NumberRange, DateRange, PickEntries, SkewRange, LengthRange, TemplateParts, CaseBranches, StillCitations, ReferenceTargets, ReferenceWindows, ParentRows, SpreadWeights, LookupColumns, RowCost, LineSize, ChangesAndNulls, UnitDates, LaterDates, Totals, PaddedParts}
 use Rattle.schema_plan.specs.declared.site.Site.{Site}
 use Rattle.schema_plan.specs.declared.site.Site.TheVariants.{Whole, OfTable, OfColumn}
 use Rattle.schema_plan.specs.Citations.{cited_names, leaves_of, may_cite, may_cite_of_kind, names_in_leaf}
+use Rattle.schema_plan.specs.ColumnFacts.{field_facts}
 use Rattle.schema_plan.specs.Counts.{count}
 use Rattle.schema_plan.specs.Dictionaries.{Project, dictionary_named}
 use Rattle.schema_plan.specs.Layout.{becomes_null, births_of, columns_of, layout_of, place_of_column, place_of_table, window_layout}
@@ -255,6 +258,9 @@ abbrev pub may_be_redrawn : Kind → Bool
 may_be_redrawn (kind.Leaf leaf) = true
 may_be_redrawn (kind.Template parts) = true
 may_be_redrawn (kind.Case on branches) = true
+may_be_redrawn (kind.After of lo hi) = true
+may_be_redrawn (kind.Sum of) = true
+may_be_redrawn (kind.Product of) = true
 may_be_redrawn _ = false
 
 -- a column that changes is of such a kind
@@ -281,6 +287,34 @@ abbrev pub is_unit_date : ℤ → Kind → Bool
 is_unit_date units (kind.BornDate start step) = are_unit_days units start step
 is_unit_date units (kind.ChangedDate start step) = are_unit_days units start step
 is_unit_date units _ = true
+
+-- ---- what rules ask of dates after dates, and of sums and products
+
+-- a date follows another by days from lo to hi, at most 36,525, before or after
+abbrev pub is_after_range : ℤ → ℤ → Bool
+is_after_range lo hi = int_le (neg_ℤ (pos 36525)) lo && int_le lo hi && int_le hi (pos 36525)
+
+-- the column at a place, where it is a date after a date: it has days, so the one that it follows stands before it and has some too; and
+-- that one doesn't move, unless the column changes itself
+abbrev pub is_later_date : Option Days → List Column → ℕ → Kind → Bool
+is_later_date days columns place (kind.After of lo hi) =
+    is_after_range lo hi && is_some days && (is_redrawn_at columns place || not (moves_at columns (place_of_column columns of)))
+is_later_date days columns place _ = true
+
+-- of some names none is that of a column that moves
+abbrev pub are_still_names : List Column → List (List ℕ) → Bool
+are_still_names columns names = list_all (λ name. not (moves_at columns (place_of_column columns name))) names
+
+-- the column at a place joins others: it has numbers, so these stand before it and have some too; and none of them moves, unless the column
+-- changes itself
+abbrev pub joins : Option Numbers → List Column → ℕ → List (List ℕ) → Bool
+joins numbers columns place of = is_some numbers && (is_redrawn_at columns place || are_still_names columns of)
+
+-- a sum joins 1 to 8 operands, a product 2 to 4
+abbrev pub is_total : Option Numbers → List Column → ℕ → Kind → Bool
+is_total numbers columns place (kind.Sum of) = nat_le 1 (length of) && nat_le (length of) 8 && joins numbers columns place of
+is_total numbers columns place (kind.Product of) = nat_le 2 (length of) && nat_le (length of) 4 && joins numbers columns place of
+is_total numbers columns place _ = true
 
 -- ---- what rules ask of padded parts
 
@@ -454,6 +488,19 @@ holds ChangesAndNulls project (OfColumn table column) =
     && is_change (kind_at (columns_at project.schema table) column) (is_redrawn_at (columns_at project.schema table) column)
 -- V26: a date of units is from 0001-01-01 to 9999-12-31 at each unit, and its step is 0 to 3,660 days
 holds UnitDates project (OfColumn table column) = is_unit_date project.schema.units (kind_at (columns_at project.schema table) column)
+-- V27: a date after a date names an earlier dated column, follows it by at most 36,525 days, before or after, and is from 0001-01-01 to
+-- 9999-12-31; it follows none that moves, unless it changes itself. Past 64 tables, where an earlier rule is broken, nothing is asked
+holds LaterDates project (OfColumn table column) =
+    nat_le 64 table
+    || is_later_date (field_facts (layout_of project) table column).days (columns_at project.schema table) column
+    (kind_at (columns_at project.schema table) column)
+-- V28: a sum has 1 to 8 operands and a product 2 to 4, each an earlier numeric column; it has at most 9 digits after the point, and at most
+-- 64 drawn values are read for it; each operand, in a sum with the digits of the sum, and what is joined so far after each operand is from
+-- -(2^63 - 1) to 2^63 - 1; no operand moves, unless the column changes itself. The same of tables past 64
+holds Totals project (OfColumn table column) =
+    nat_le 64 table
+    || is_total (field_facts (layout_of project) table column).numbers (columns_at project.schema table) column
+    (kind_at (columns_at project.schema table) column)
 -- V29: a padded part of a template has a width of 1 to 64, and cites a column of whole numbers
 holds PaddedParts project (OfColumn table column) =
     are_paddings (columns_at project.schema table) (kind_at (columns_at project.schema table) column)
@@ -488,15 +535,17 @@ rule_number RowCost = 23
 rule_number LineSize = 24
 rule_number ChangesAndNulls = 25
 rule_number UnitDates = 26
+rule_number LaterDates = 27
+rule_number Totals = 28
 rule_number PaddedParts = 29
 
--- the rules in the order in which they are tried: V13, V1 to V12, V14 to V26, V29. Of V13 the part that a
--- schema alone tells is no rule beside the whole
+-- the rules in the order in which they are tried: V13, V1 to V12, V14 to V29. Of V13 the part that a schema alone tells is no rule beside
+-- the whole
 abbrev pub rules : List Rule
 rules = Dictionaries ∷ SeedAndUnits ∷ TableCount ∷ TableNames ∷ Columns ∷ KeyColumn ∷ RowCount
     ∷ LifeRange ∷ UpdatePeriod ∷ NumberRange ∷ DateRange ∷ PickEntries ∷ SkewRange ∷ LengthRange ∷ TemplateParts ∷ CaseBranches
     ∷ StillCitations ∷ ReferenceTargets ∷ ReferenceWindows ∷ ParentRows ∷ SpreadWeights ∷ LookupColumns ∷ RowCost ∷ LineSize ∷ ChangesAndNulls ∷ UnitDates
-    ∷ PaddedParts ∷ []
+    ∷ LaterDates ∷ Totals ∷ PaddedParts ∷ []
 
 -- ---- the first broken rule
 

@@ -2,25 +2,18 @@
 use Rattle.std.specs.Prelude.{ℕ, ◌+◌, List, is_some, sum_by}
 use Rattle.schema_plan.specs.Layout.{Layout, TableLayout, table_at}
 use Rattle.schema_plan.specs.Lineage.{one_if, death_cost, lineages, lineage_at, loss_cost, null_cost}
-use Rattle.schema_plan.specs.FieldBounds.{greatest_by, bounds_of_fields}
+use Rattle.schema_plan.specs.ColumnFacts.{column_facts_at}
+use Rattle.schema_plan.specs.FieldSizes.{field_sizes, greatest_by}
+use Rattle.schema_plan.specs.declared.column_facts.ColumnFacts.{ColumnFacts}
 use Rattle.schema_plan.specs.declared.facts.TableFacts.{TableFacts}
-use Rattle.schema_plan.specs.declared.field_bounds.FieldBounds.{FieldBounds}
 
--- the greatest size of a line, by what its fields take: a delimiter or the line feed stands behind each
-abbrev pub line_size : List FieldBounds → ℕ
-line_size fields = sum_by (λ (field : FieldBounds). field.size + 1) fields
-
--- how many permutations a line asks, by what its fields take
-abbrev pub line_permutations : List FieldBounds → ℕ
-line_permutations fields = sum_by (λ (field : FieldBounds). field.permutations) fields
-
--- what a line takes, by what its fields take
-abbrev pub line_bounds : List FieldBounds → FieldBounds
-line_bounds fields = record { size = line_size fields; permutations = line_permutations fields }
+-- the greatest size of a line, by those of its fields: a delimiter or the line feed stands behind each
+abbrev pub line_size : List ℕ → ℕ
+line_size sizes = sum_by (λ size. size + 1) sizes
 
 -- the greatest size of a line of a table, in bytes
 abbrev pub line_of_table : Layout → TableLayout → ℕ
-line_of_table layout table = line_size (bounds_of_fields layout.delimiter layout.tables table)
+line_of_table layout table = line_size (field_sizes layout.delimiter layout.tables table.columns)
 
 -- the greatest size of a line of the table at a place, in bytes
 unfoldable pub max_line : Layout → ℕ → ℕ
@@ -30,9 +23,13 @@ max_line layout place = line_of_table layout (table_at layout.tables place)
 unfoldable pub reach : Layout → ℕ
 reach layout = greatest_by (line_of_table layout) layout.tables
 
+-- how many permutations fields ask at most
+abbrev pub sum_of_costs : List ColumnFacts → ℕ
+sum_of_costs columns = sum_by (λ (facts : ColumnFacts). facts.cost) columns
+
 -- how many permutations the fields of a row ask at most, once it is known which references are null
-abbrev pub fields_cost : Layout → TableLayout → ℕ
-fields_cost layout table = line_permutations (bounds_of_fields layout.delimiter layout.tables table)
+abbrev pub fields_cost : Layout → ℕ → ℕ
+fields_cost layout place = sum_of_costs (column_facts_at layout place)
 
 -- how many permutations the unit of a row's last change takes at most: that of its updates, and those that tell when it lost parents
 abbrev pub change_cost : Layout → ℕ → ℕ
@@ -41,7 +38,7 @@ change_cost layout place = one_if (is_some (table_at layout.tables place).update
 -- how many permutations the line of a row asks at most, with the change unit that it is drawn by
 unfoldable pub line_cost : Layout → ℕ → ℕ
 line_cost layout place =
-    change_cost layout place + (null_cost layout.tables place + fields_cost layout (table_at layout.tables place))
+    change_cost layout place + (null_cost layout.tables place + fields_cost layout place)
 
 -- the cost of a row of the table at a place, which bounds the permutations of its report: one that finds the row by its key, and
 -- those of its death and of its line
@@ -53,6 +50,7 @@ abbrev pub facts_at : Layout → ℕ → TableFacts
 facts_at layout place = record {
   keys = (table_at layout.tables place).key;
   lineage = lineage_at (lineages layout.tables) place;
+  columns = column_facts_at layout place;
   cost = cost layout place;
   max_line = max_line layout place;
 }

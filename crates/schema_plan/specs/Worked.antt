@@ -1,20 +1,20 @@
 -- Schemas whose lives, costs and sizes are worked out by hand.
-use Rattle.std.specs.Prelude.{ℕ, pos, true, false, List, [], ◌∷◌, map, Some, None, codes}
+use Rattle.std.specs.Prelude.{ℕ, ℤ, pos, true, false, List, [], ◌∷◌, ◌++◌, map, Option, Some, None, codes}
 use Rattle.schema_model.specs.declared.table.Phase.{Phase}
 use Rattle.schema_model.specs.declared.table.Table.{Table}
 use Rattle.schema_model.specs.declared.table.Delimiter.TheVariants.{Tab}
 use Rattle.schema_model.specs.declared.column.Column.{Column}
 use Rattle.schema_model.specs.declared.column.Kind.{Kind}
-use Rattle.schema_model.specs.declared.column.Kind.TheVariants.{Key, Born, Changed, Leaf as Drawn, Template, Ref, Lookup}
-use Rattle.schema_model.specs.declared.column.Leaf.TheVariants.{Pick, Dict, Words, Chars}
+use Rattle.schema_model.specs.declared.column.Kind.TheVariants.{Key, Born, Changed, Leaf as Drawn, Template, Ref, Lookup, After, Sum}
+use Rattle.schema_model.specs.declared.column.Leaf.TheVariants.{Int, Date, Pick, Dict, Words, Chars}
 use Rattle.schema_model.specs.declared.column.Deal.TheVariants as deal
 use Rattle.schema_model.specs.declared.column.OnDelete.TheVariants.{Cascade, Null}
 use Rattle.schema_model.specs.declared.column.Part.TheVariants.{Literal, Cited}
-use Rattle.schema_plan.specs.declared.field_bounds.FieldBounds.{FieldBounds}
+use Rattle.schema_plan.specs.declared.numbers.Numbers.{Numbers}
 use Rattle.schema_plan.specs.Dictionaries.{Project, project_of}
-use Rattle.schema_plan.specs.FieldBounds.{bounds_of_fields}
+use Rattle.schema_plan.specs.Numbers.{drawn_numbers, sum_of}
+use Rattle.schema_plan.specs.FieldSizes.{field_sizes}
 use Rattle.schema_plan.specs.Layout.{Layout, TableLayout}
-use Rattle.schema_model.specs.declared.column.OnDelete.TheVariants.{Cascade}
 use Rattle.schema_model.specs.declared.column.Window.TheVariants.{Units}
 
 -- the one phase in which as many rows are born at each unit after the first
@@ -67,6 +67,46 @@ order_lines = record {
 
 abbrev pub sales : Project
 sales = project_of (record { seed = pos 7; units = pos 5; delimiter = Tab; tables = customer ∷ orders ∷ order_lines ∷ [] }) []
+
+-- a table with some columns more
+abbrev pub with_columns : Table → List Column → Table
+with_columns table columns = record table { columns = table.columns ++ columns }
+
+-- customers with a day, and orders that are due up to 9 days after their customer's day
+abbrev pub dues : Project
+dues = project_of
+    (record {
+      seed = pos 7;
+      units = pos 5;
+      delimiter = Tab;
+      tables =
+          with_columns customer (plain (codes "day") (Drawn (Date (pos 19781) (pos 19781))) ∷ [])
+          ∷ with_columns orders (plain (codes "look") (Lookup (codes "customer") (codes "day")) ∷ plain (codes "due") (After (codes "look") (pos 0) (pos 9)) ∷ [])
+          ∷ [];
+    })
+    []
+
+-- customers with a number, and orders with twice that of their customer
+abbrev pub doubles : Project
+doubles = project_of
+    (record {
+      seed = pos 7;
+      units = pos 5;
+      delimiter = Tab;
+      tables =
+          with_columns customer (plain (codes "n") (Drawn (Int (pos 3) (pos 3) (pos 1))) ∷ [])
+          ∷ with_columns orders (plain (codes "look") (Lookup (codes "customer") (codes "n")) ∷ plain (codes "twice") (Sum (codes "look" ∷ codes "look" ∷ [])) ∷ [])
+          ∷ [];
+    })
+    []
+
+-- an operand that is read from one drawn value
+abbrev pub drawn : ℕ → ℤ → ℤ → Option Numbers
+drawn decimals least greatest = Some (drawn_numbers decimals least greatest)
+
+-- the sum of some operands eight times
+abbrev pub eight_times : Option Numbers → Option Numbers
+eight_times operand = sum_of (operand ∷ operand ∷ operand ∷ operand ∷ operand ∷ operand ∷ operand ∷ operand ∷ [])
 
 -- remarks stay when their customer goes; a label cites the customer too
 abbrev pub remark : Table
@@ -154,5 +194,4 @@ drawn_project project = project_of (record project.schema { tables = map drawn_t
 
 -- the greatest sizes of a table's fields
 abbrev pub sizes_of : Layout → TableLayout → List ℕ
-sizes_of layout table =
-    map (λ (field : FieldBounds). field.size) (bounds_of_fields layout.delimiter layout.tables table)
+sizes_of layout table = field_sizes layout.delimiter layout.tables table.columns

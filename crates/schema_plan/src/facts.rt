@@ -2,19 +2,22 @@
 
 ghost use Rattle.std.specs.Prelude.{◌≡◌, ◌<◌, length, map, min};
 ghost use Rattle.std.specs.List.{range_with_len};
-ghost use Rattle.schema_plan.specs.Capped.{capped_bounds, capped_facts, first_facts};
+ghost use Rattle.schema_plan.specs.Capped.{capped, capped_facts, first_facts};
 ghost use Rattle.schema_plan.specs.Delimiters.{delimiter_byte as byte_of};
 ghost use Rattle.schema_plan.specs.Dictionaries.{project_of};
-ghost use Rattle.schema_plan.specs.FieldBounds.{bounds_of_fields, greatest_by};
-ghost use Rattle.schema_plan.specs.Layout.{layout_of, table_layout, table_layouts};
-ghost use Rattle.schema_plan.specs.TableFacts.{facts_at, line_bounds};
+ghost use Rattle.schema_plan.specs.FieldSizes.{field_sizes, greatest_by};
+ghost use Rattle.schema_plan.specs.Layout.{column_layout, layout_of, table_layouts};
+ghost use Rattle.schema_plan.specs.TableFacts.{facts_at, line_size, sum_of_costs};
 
-use crate::field_bounds::{FieldBounds, bounds_of};
+use crate::column_facts::{ColumnFacts, NO_COLUMN_FACTS, facts_among, facts_of_columns};
+use crate::counts::count;
+use crate::field_sizes::size_of;
 use crate::layout::Keys;
 use crate::lineage::{ENDLESS, Lineage, lineage_of};
 use crate::places::keys_of;
+use crate::rules::MAX_ITEMS;
 use crate::word_lists::Dictionaries;
-use schema_model::{Delimiter, Schema, Table};
+use schema_model::{Column, Delimiter, Schema, Table};
 
 /// The facts of a table, which don't change from row to row.
 #[derive(Clone, Copy, Debug, PartialEq, Eq)]
@@ -23,10 +26,25 @@ pub struct TableFacts {
     pub keys: Keys,
     /// How long the rows live, and what their deaths and losses cost.
     pub lineage: Lineage,
+    /// The facts of the first 64 columns, in order. Those past the last column are of a column of the empty text.
+    pub columns: [ColumnFacts; MAX_ITEMS],
     /// The cost of a row: a bound on the permutations of its report.
     pub cost: u64,
     /// The greatest length of a line, in bytes.
     pub max_line: u64,
+}
+
+impl TableFacts {
+    ghost use Rattle.std.specs.Prelude.{◌≡◌};
+    ghost use Rattle.schema_plan.specs.FactsBefore.{facts_among};
+
+    /// Returns the facts of the column at a place. Past the first 64 columns, and past the last one, these are those of a column of the
+    /// empty text.
+    pub fn column(&self, place: usize) -> ColumnFacts
+        ensures { result ≡ facts_among self.now.columns place }
+    {
+        facts_among(&self.columns, place)
+    }
 }
 
 /// The facts of a table without rows and columns.
@@ -36,6 +54,7 @@ pub const NO_FACTS: TableFacts = TableFacts {
         scramble: false,
     },
     lineage: ENDLESS,
+    columns: [NO_COLUMN_FACTS; MAX_ITEMS],
     cost: 0,
     max_line: 0,
 };
@@ -64,42 +83,52 @@ fn facts_of(
     let tables = schema.tables.as_slice();
     let table = &tables[place];
     let lineage = lineage_of(tables, earlier, table);
-    let line = line_bounds(
-        delimiter_byte(schema.delimiter),
-        dictionaries,
-        tables,
-        table,
-    );
+    let columns = facts_of_columns(count(schema.units), tables, earlier, table);
     let death = lineage.death_cost.saturating_add(1);
     let change = lineage
         .loss_cost
         .saturating_add(u64::from(table.update.is_some()));
-    let fields = lineage.null_cost.saturating_add(line.permutations);
+    let fields = lineage.null_cost.saturating_add(sum_of_costs(&columns));
     TableFacts {
         keys: keys_of(table.columns.as_slice()),
         lineage,
+        columns,
         cost: death.saturating_add(change.saturating_add(fields)),
-        max_line: line.size,
+        max_line: line_size(
+            delimiter_byte(schema.delimiter),
+            dictionaries,
+            tables,
+            table.columns.as_slice(),
+        ),
     }
 }
 
-/// Returns the bounds of a table's lines: the sizes of the fields, a byte after each, and the fields' permutations.
-fn line_bounds(
+/// Returns how many permutations some fields ask together.
+fn sum_of_costs(columns: &[ColumnFacts]) -> u64
+    ensures { result ≡ capped (sum_of_costs columns.now) }
+{
+    let mut cost: u64 = 0;
+    for facts in columns {
+        cost = cost.saturating_add(facts.cost);
+    }
+    cost
+}
+
+/// Returns the greatest length of a line of some columns: the sizes of the fields, and a byte after each.
+fn line_size(
     delimiter: u8,
     dictionaries: &Dictionaries,
     tables: &[Table],
-    table: &Table,
-) -> FieldBounds
-    ensures { result ≡ capped_bounds (line_bounds (bounds_of_fields delimiter (table_layouts dictionaries.now tables.now) (table_layout dictionaries.now tables.now table.now))) }
+    columns: &[Column],
+) -> u64
+    ensures { result ≡ capped (line_size (field_sizes delimiter (table_layouts dictionaries.now tables.now) (map (column_layout dictionaries.now tables.now columns.now) columns.now))) }
 {
     let mut size: u64 = 0;
-    let mut permutations: u64 = 0;
-    for column in table.columns.as_slice() {
-        let taken = bounds_of(delimiter, dictionaries, tables, table, &column.kind);
-        size = size.saturating_add(taken.size.saturating_add(1));
-        permutations = permutations.saturating_add(taken.permutations);
+    for column in columns {
+        let taken = size_of(delimiter, dictionaries, tables, columns, &column.kind);
+        size = size.saturating_add(taken.saturating_add(1));
     }
-    FieldBounds { size, permutations }
+    size
 }
 
 /// Returns the byte between two fields.

@@ -8,13 +8,17 @@
 
 mod births;
 mod broken;
+mod column_facts;
 mod counts;
+mod days;
 mod facts;
-mod field_bounds;
+mod field_costs;
+mod field_sizes;
 pub mod laws;
 mod layout;
 mod lineage;
 mod null_costs;
+mod numbers;
 mod places;
 mod plan;
 mod ready;
@@ -28,15 +32,18 @@ mod word_lists;
 
 pub use births::cohort_size;
 pub use broken::Broken;
+pub use column_facts::ColumnFacts;
 pub use counts::count;
+pub use days::Days;
 pub use facts::{NO_FACTS, TableFacts, fill_facts};
 pub use layout::{Keys, Span, becomes_null};
 pub use lineage::{Lineage, lineage_at};
+pub use numbers::Numbers;
 pub use places::{columns_of, parent_via, place_of_column, place_of_table};
 pub use plan::Plan;
 pub use ready::{
-    ReadyColumn, ReadyKind, ReadyLeaf, ReadyList, ReadyLookup, ReadyPart, ReadyReference,
-    ReadyUnitDate,
+    ReadyAfter, ReadyColumn, ReadyKind, ReadyLeaf, ReadyList, ReadyLookup, ReadyPart,
+    ReadyReference, ReadyUnitDate,
 };
 pub use ready_words::ReadyWords;
 pub use rules::{MAX_ITEMS, MAX_WIDTH, Rule};

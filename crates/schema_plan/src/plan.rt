@@ -4,8 +4,9 @@ ghost use Rattle.std.specs.Prelude.{◌≡◌, ◌<◌, ◌≤◌, Some, length,
 ghost use Rattle.std.specs.List.{position};
 ghost use Rattle.std.specs.Option.{option_copied};
 ghost use Rattle.schema_plan.specs.Capped.{first_facts};
+ghost use Rattle.schema_plan.specs.ColumnFacts.{field_facts};
 ghost use Rattle.schema_plan.specs.Dictionaries.{dictionary_named, project_of};
-ghost use Rattle.schema_plan.specs.FieldBounds.{bounds_of};
+ghost use Rattle.schema_plan.specs.FieldSizes.{size_of};
 ghost use Rattle.schema_plan.specs.Layout.{column_at, layout_of, table_at, table_layout};
 ghost use Rattle.schema_plan.specs.Limits.{IsInLimits, IsLife, IsTableInLimits, IsUpdatePeriod};
 ghost use Rattle.schema_plan.specs.Lineage.{longest_life, sure_life};
@@ -18,9 +19,10 @@ ghost use Rattle.schema_plan.specs.TableFacts.{cost, facts_at, max_line, reach};
 use crate::births::cohorts_of_tables;
 use crate::counts::count;
 use crate::facts::{TableFacts, delimiter_byte, greatest_line};
-use crate::field_bounds::bounds_of;
+use crate::field_sizes::size_of;
 use crate::layout::{Keys, Span};
 use crate::lineage::span_of;
+use crate::numbers::Numbers;
 use crate::ready::ReadyColumn;
 use crate::ready_columns::ready_tables;
 use crate::word_lists::Dictionaries;
@@ -254,15 +256,22 @@ impl Plan {
     pub fn field_size(&self, table: u32, column: usize) -> u64
         requires table { table < length self.now.schema.tables }
         requires column { column < length (table_at (layout_of self.now).tables table).columns }
-        ensures size { result ≡ (bounds_of (layout_of self.now).delimiter (layout_of self.now).tables (table_at (layout_of self.now).tables table)
-            (column_at (table_at (layout_of self.now).tables table).columns column).kind).size }
+        ensures size { result ≡ size_of (layout_of self.now).delimiter (layout_of self.now).tables (table_at (layout_of self.now).tables table).columns
+            (column_at (table_at (layout_of self.now).tables table).columns column).kind }
         ensures within_line { result < max_line (layout_of self.now) table }
     {
         let tables = self.schema.tables.as_slice();
-        let table = &tables[table as usize];
-        let columns = table.columns.as_slice();
+        let columns = tables[table as usize].columns.as_slice();
         let kind = &columns[column].kind;
-        bounds_of(self.delimiter(), &self.dictionaries, tables, table, kind).size
+        size_of(self.delimiter(), &self.dictionaries, tables, columns, kind)
+    }
+
+    /// Returns the numbers that the fields in a column of a table hold, or None exactly if the column isn't numeric.
+    pub fn numbers(&self, table: u32, column: usize) -> Option<Numbers>
+        requires { table < length self.now.schema.tables }
+        ensures { result ≡ (field_facts (layout_of self.now) table column).numbers }
+    {
+        self.facts_of(table).column(column).numbers
     }
 
     /// Returns the greatest length of a line of any table, in bytes.

@@ -54,6 +54,16 @@ pub enum ReadyKind {
     List(ReadyList),
     /// The date of a unit.
     UnitDate(ReadyUnitDate),
+    /// A date after that of another column.
+    After(ReadyAfter),
+    /// The sum of the numbers of the columns at some places.
+    Sum {
+        of: Sequence<u64>,
+    },
+    /// The product of the numbers of the columns at some places.
+    Product {
+        of: Sequence<u64>,
+    },
 }
 
 impl Drop for ReadyKind {
@@ -63,12 +73,14 @@ impl Drop for ReadyKind {
             | ReadyKind::Born
             | ReadyKind::Changed
             | ReadyKind::Lookup(_)
-            | ReadyKind::UnitDate(_) => {}
+            | ReadyKind::UnitDate(_)
+            | ReadyKind::After(_) => {}
             ReadyKind::Drawn(it) => drop(it),
             ReadyKind::Template { parts } => drop(parts),
             ReadyKind::Case { on: _, branches } => drop(branches),
             ReadyKind::Reference(it) => drop(it),
             ReadyKind::List(it) => drop(it),
+            ReadyKind::Sum { of } | ReadyKind::Product { of } => drop(of),
         }
     }
 }
@@ -142,6 +154,19 @@ pub struct ReadyUnitDate {
     pub start: i32,
     /// The days from one unit to the next.
     pub step: u64,
+}
+
+/// The dates after those of another column, ready for rows.
+#[derive(Clone, Copy, Debug)]
+pub struct ReadyAfter {
+    /// The place of the column that is followed, counted from 0.
+    pub of: u64,
+    /// By how many days a date follows at least.
+    pub lo: i64,
+    /// By how many days it follows at most.
+    pub hi: i64,
+    /// The number of these numbers of days.
+    pub choices: FixedDivisor,
 }
 
 /// A part of a template, ready for rows.

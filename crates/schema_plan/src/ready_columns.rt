@@ -2,10 +2,11 @@
 
 ghost use Rattle.std.specs.Prelude.{◌≡◌, ◌≤◌, ℕ, List, All, IfOk, length, map, sum};
 ghost use Rattle.std.specs.List.{range_with_len};
+ghost use Rattle.schema_plan.specs.Choices.{choices};
 ghost use Rattle.schema_plan.specs.Counts.{count};
 ghost use Rattle.schema_plan.specs.Dictionaries.{Dictionary, project_of};
-ghost use Rattle.schema_plan.specs.Layout.{becomes_null, column_layout, is_drawn_deal, kind_layout, layout_of, leaf_layout, window_layout};
-ghost use Rattle.schema_plan.specs.Limits.{CanBeReady, IsInLimits, IsLeafInLimits};
+ghost use Rattle.schema_plan.specs.Layout.{becomes_null, column_layout, is_drawn_deal, kind_layout, layout_of, leaf_layout, place_of_column, window_layout};
+ghost use Rattle.schema_plan.specs.Limits.{CanBeReady, IsAfterRange, IsInLimits, IsLeafInLimits};
 ghost use Rattle.schema_plan.specs.Ready.{ready_column, ready_columns, ready_kind, ready_leaf, ready_reference};
 ghost use Rattle.schema_plan.specs.References.{IsSpread};
 
@@ -14,9 +15,10 @@ use crate::facts::delimiter_byte;
 use crate::layout::{becomes_null, is_drawn_deal};
 use crate::places::{columns_of, parent_via, place_of_column, place_of_table};
 use crate::ready::{
-    ReadyColumn, ReadyKind, ReadyLeaf, ReadyList, ReadyLookup, ReadyReference, ReadyUnitDate,
+    ReadyAfter, ReadyColumn, ReadyKind, ReadyLeaf, ReadyList, ReadyLookup, ReadyReference,
+    ReadyUnitDate,
 };
-use crate::ready_leaves::{counts, ready_leaf};
+use crate::ready_leaves::{choices, counts, ready_leaf};
 use crate::ready_parts::ready_parts;
 use crate::ready_words::{Lexicon, ReadyWords};
 use crate::word_lists::Dictionaries;
@@ -139,7 +141,41 @@ fn ready_kind(
         Kind::ChangedDate { start, step } => {
             Ok(ReadyKind::UnitDate(ready_unit_date(true, *start, *step)))
         }
+        Kind::After { of, lo, hi } => {
+            let of = place_of_column(columns, of) as u64;
+            Ok(ReadyKind::After(ready_after(of, *lo, *hi)))
+        }
+        Kind::Sum { of } => Ok(ReadyKind::Sum {
+            of: places_of(alloc, columns, of.as_slice())?,
+        }),
+        Kind::Product { of } => Ok(ReadyKind::Product {
+            of: places_of(alloc, columns, of.as_slice())?,
+        }),
     }
+}
+
+/// Makes ready the dates from `lo` to `hi` days after those of the column at a place.
+fn ready_after(of: u64, lo: i64, hi: i64) -> ReadyAfter
+    requires { IsAfterRange lo hi }
+    ensures { result ≡ record { of = of; lo = lo; hi = hi; choices = choices lo hi 1 } }
+{
+    ReadyAfter {
+        of,
+        lo,
+        hi,
+        choices: choices(lo, hi, 1),
+    }
+}
+
+/// Returns the places of some named columns, in order.
+fn places_of(alloc: Global, columns: &[Column], names: &[Text]) -> Result<Sequence<u64>, Memory>
+    ensures { IfOk result (λ places. places ≡ map (place_of_column columns.now) names.now) }
+{
+    let mut places = Sequence::new(alloc);
+    for name in names {
+        places.push(place_of_column(columns, name) as u64)?;
+    }
+    Ok(places)
 }
 
 /// Makes ready the dates of the units.

@@ -51,7 +51,7 @@ pub(crate) fn ready_leaf(
 }
 
 /// Returns how many numbers there are from `lo` to `hi` in steps. The first is `lo`.
-fn choices(lo: i64, hi: i64, step: u64) -> FixedDivisor
+pub(crate) fn choices(lo: i64, hi: i64, step: u64) -> FixedDivisor
     requires range { IsRange lo hi }
     requires step { 1 ≤ step }
     ensures { result ≡ choices lo hi step }

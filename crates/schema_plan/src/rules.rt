@@ -66,6 +66,10 @@ pub enum Rule {
     ChangesAndNulls,
     /// V26
     UnitDates,
+    /// V27
+    LaterDates,
+    /// V28
+    Totals,
     /// V29
     PaddedParts,
 }
@@ -102,6 +106,8 @@ impl Rule {
             Rule::LineSize => 24,
             Rule::ChangesAndNulls => 25,
             Rule::UnitDates => 26,
+            Rule::LaterDates => 27,
+            Rule::Totals => 28,
             Rule::PaddedParts => 29,
         }
     }

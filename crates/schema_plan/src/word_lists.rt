@@ -1,9 +1,9 @@
 //! Dictionaries: word lists with names.
 
 ghost use Rattle.std.specs.Prelude.{◌≡◌, length};
-ghost use Rattle.schema_plan.specs.FieldBounds.{entry_size};
+ghost use Rattle.schema_plan.specs.FieldSizes.{entry_size};
 
-use crate::field_bounds::written_size;
+use crate::field_sizes::written_size;
 use dictionaries::Dictionary;
 use out_of_memory::Memory;
 use schema_model::Text;
@@ -38,7 +38,7 @@ impl Model for NamedWords {
     ghost use Rattle.std.specs.Prelude.{◌≡◌};
     ghost use Rattle.std.specs.Arc.{arc_value};
     ghost use Rattle.schema_plan.specs.Dictionaries.{Dictionary};
-    ghost use Rattle.schema_plan.specs.FieldBounds.{entry_size};
+    ghost use Rattle.schema_plan.specs.FieldSizes.{entry_size};
 
     ghost Value = { Dictionary };
 
@@ -49,7 +49,7 @@ impl Model for NamedWords {
 
 impl NamedWords {
     ghost use Rattle.std.specs.Prelude.{◌≡◌, IfOk};
-    ghost use Rattle.schema_plan.specs.FieldBounds.{entry_size};
+    ghost use Rattle.schema_plan.specs.FieldSizes.{entry_size};
 
     /// Gives a word list this name. Refuses if memory is wanting.
     fn new(alloc: Global, name: &str, words: Dictionary) -> Result<NamedWords, Memory>
@@ -133,7 +133,7 @@ impl Dictionaries {
     ghost use Rattle.std.specs.List.{position, position_or_len};
     ghost use Rattle.std.specs.Option.{option_copied};
     ghost use Rattle.schema_plan.specs.Dictionaries.{AreWordLists, dictionary_named, words_named};
-    ghost use Rattle.schema_plan.specs.FieldBounds.{entry_size};
+    ghost use Rattle.schema_plan.specs.FieldSizes.{entry_size};
     ghost use Rattle.schema_plan.specs.Names.{same_text};
 
     /// Returns no dictionaries. It takes no memory.

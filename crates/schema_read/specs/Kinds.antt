@@ -5,7 +5,7 @@ use Rattle.std.specs.Option.{option_or}
 use Rattle.schema_read.specs.declared.kind_name.LeafName.{LeafName}
 use Rattle.schema_read.specs.declared.kind_name.LeafName.TheVariants.{Int, Fixed, Date, Pick, Skew, Dict, Words, Chars, Uuid}
 use Rattle.schema_read.specs.declared.kind_name.KindName.{KindName}
-use Rattle.schema_read.specs.declared.kind_name.KindName.TheVariants.{Key, Born, Changed, Template, Case, Ref, Lookup, List as Listed, BornDate, ChangedDate, Leaf}
+use Rattle.schema_read.specs.declared.kind_name.KindName.TheVariants.{Key, Born, Changed, Template, Case, Ref, Lookup, List as Listed, BornDate, ChangedDate, After, Sum, Product, Leaf}
 use Rattle.schema_read.specs.Document.{same_bytes}
 
 -- the name of a leaf kind, as it is written
@@ -39,10 +39,13 @@ kind_text Lookup = codes "lookup"
 kind_text Listed = codes "list"
 kind_text BornDate = codes "born_date"
 kind_text ChangedDate = codes "changed_date"
+kind_text After = codes "after"
+kind_text Sum = codes "sum"
+kind_text Product = codes "product"
 kind_text (Leaf k) = leaf_text k
 
 abbrev pub kinds_but_leaves : List KindName
-kinds_but_leaves = Key ∷ Born ∷ Changed ∷ Template ∷ Case ∷ Ref ∷ Lookup ∷ Listed ∷ BornDate ∷ ChangedDate ∷ []
+kinds_but_leaves = Key ∷ Born ∷ Changed ∷ Template ∷ Case ∷ Ref ∷ Lookup ∷ Listed ∷ BornDate ∷ ChangedDate ∷ After ∷ Sum ∷ Product ∷ []
 
 -- the kind of this name
 abbrev pub kind_named : List ℕ → Option KindName

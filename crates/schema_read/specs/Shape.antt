@@ -19,7 +19,7 @@ use Rattle.schema_read.specs.declared.fault.Wrong.{Wrong}
 use Rattle.schema_read.specs.declared.fault.Expected.TheVariants.{Whole, TextValue, Flag, DelimiterName, TableList, TwoWholes, KindName as NameOfKind, LeafName as NameOfLeaf, DateText, TextList, Wholes, PartList, WindowValue, InsertValue, DeleteName, DealName}
 use Rattle.schema_read.specs.declared.schema_key.SchemaKey.TheVariants as key
 use Rattle.schema_read.specs.declared.kind_name.KindName.{KindName}
-use Rattle.schema_read.specs.declared.kind_name.KindName.TheVariants.{Key, Born, Changed, Leaf as LeafOf, Template, Case, Ref, Lookup, List as Listed, BornDate, ChangedDate}
+use Rattle.schema_read.specs.declared.kind_name.KindName.TheVariants.{Key, Born, Changed, Leaf as LeafOf, Template, Case, Ref, Lookup, List as Listed, BornDate, ChangedDate, After, Sum, Product}
 use Rattle.schema_read.specs.declared.kind_name.LeafName.{LeafName}
 use Rattle.schema_read.specs.declared.kind_name.LeafName.TheVariants.{Int, Fixed, Date, Pick, Skew, Dict, Words, Chars, Uuid}
 use Rattle.schema_read.specs.Types.{as_delimiter, as_life, as_phases, one_phase, as_kind, as_leaf, as_day, as_list_of, as_part, as_window, as_deletion, as_deal}
@@ -76,6 +76,9 @@ leaf_keys Uuid = []
 abbrev pub unit_date_keys : List Wanted
 unit_date_keys = Required key.Start DateText ∷ Optional key.Step Whole ∷ []
 
+abbrev pub operand_keys : List Wanted
+operand_keys = Required key.Of TextList ∷ []
+
 abbrev pub kind_keys : KindName → List Wanted
 kind_keys Key = Required key.Base Whole ∷ Optional key.Scramble Flag ∷ []
 kind_keys Born = []
@@ -88,6 +91,9 @@ kind_keys Lookup = Required key.Via TextValue ∷ Required key.Column TextValue 
 kind_keys Listed = Required key.File TextValue ∷ []
 kind_keys BornDate = unit_date_keys
 kind_keys ChangedDate = unit_date_keys
+kind_keys After = Required key.Of TextValue ∷ Required key.Lo Whole ∷ Required key.Hi Whole ∷ []
+kind_keys Sum = operand_keys
+kind_keys Product = operand_keys
 
 -- of a column of this kind
 abbrev pub column_keys : KindName → List Wanted
@@ -157,6 +163,9 @@ kind_value Lookup ms = kind.Lookup (text key.Via ms) (text key.Column ms)
 kind_value Listed ms = kind.List (text key.File ms)
 kind_value BornDate ms = kind.BornDate (value_or as_day (pos 0) key.Start ms) (whole_or (pos 1) key.Step ms)
 kind_value ChangedDate ms = kind.ChangedDate (value_or as_day (pos 0) key.Start ms) (whole_or (pos 1) key.Step ms)
+kind_value After ms = kind.After (text key.Of ms) (whole key.Lo ms) (whole key.Hi ms)
+kind_value Sum ms = kind.Sum (text_list key.Of ms)
+kind_value Product ms = kind.Product (text_list key.Of ms)
 
 abbrev pub column : Members → Column
 column ms = record { name = text key.Name ms; kind = kind_value (kind_of ms) ms; changes = flag_or false key.Changes ms; null = whole_or (pos 0) key.Null ms }

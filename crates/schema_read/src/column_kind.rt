@@ -79,6 +79,16 @@ fn read_case(alloc: Global, members: &Table) -> Result<Kind, Memory>
     Ok(Kind::Case { on, branches })
 }
 
+fn read_after(alloc: Global, members: &Table) -> Result<Kind, Memory>
+    ensures { IfOk result (λ kind. kind ≡ kind_value KindName.After (table_view members.now)) }
+{
+    Ok(Kind::After {
+        of: text_at(alloc, members, SchemaKey::Of)?,
+        lo: whole_at(members, SchemaKey::Lo),
+        hi: whole_at(members, SchemaKey::Hi),
+    })
+}
+
 /// Reads the kind of this name from the keys of a column.
 pub fn read_kind(alloc: Global, members: &Table, kind: KindName) -> Result<Kind, Memory>
     ensures { IfOk result (λ read. read ≡ kind_value kind (table_view members.now)) }
@@ -106,6 +116,13 @@ pub fn read_kind(alloc: Global, members: &Table, kind: KindName) -> Result<Kind,
         KindName::ChangedDate => Ok(Kind::ChangedDate {
             start: day_if_any(members, SchemaKey::Start).unwrap_or(0),
             step: whole_if_any(members, SchemaKey::Step).unwrap_or(1),
+        }),
+        KindName::After => read_after(alloc, members),
+        KindName::Sum => Ok(Kind::Sum {
+            of: list_at(alloc, members, SchemaKey::Of)?,
+        }),
+        KindName::Product => Ok(Kind::Product {
+            of: list_at(alloc, members, SchemaKey::Of)?,
         }),
         KindName::Leaf(leaf) => Ok(Kind::Leaf(read_leaf(alloc, members, leaf)?)),
     }

@@ -49,6 +49,12 @@ pub enum KindName {
     BornDate,
     /// `changed_date`
     ChangedDate,
+    /// `after`
+    After,
+    /// `sum`
+    Sum,
+    /// `product`
+    Product,
     /// One of the leaf kinds.
     Leaf(LeafName),
 }
@@ -86,6 +92,9 @@ pub fn kind_of_name(name: &str) -> Option<KindName>
         "list" => Some(KindName::List),
         "born_date" => Some(KindName::BornDate),
         "changed_date" => Some(KindName::ChangedDate),
+        "after" => Some(KindName::After),
+        "sum" => Some(KindName::Sum),
+        "product" => Some(KindName::Product),
         _ => match leaf_of_name(name) {
             Some(leaf) => Some(KindName::Leaf(leaf)),
             None => None,

@@ -76,6 +76,8 @@ pub enum SchemaKey {
     Width,
     /// `deal`
     Deal,
+    /// `of`
+    Of,
     /// A key that has no place where it stands.
     Other,
 }
@@ -121,6 +123,7 @@ impl SchemaKey {
             SchemaKey::Start => "start",
             SchemaKey::Width => "width",
             SchemaKey::Deal => "deal",
+            SchemaKey::Of => "of",
             SchemaKey::Other => "",
         }
     }

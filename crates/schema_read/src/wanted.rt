@@ -174,6 +174,14 @@ const UNIT_DATE_KEYS: [Wanted; 2] = [
     Wanted::Optional(SchemaKey::Step, Expected::Whole),
 ];
 
+const AFTER_KEYS: [Wanted; 3] = [
+    Wanted::Required(SchemaKey::Of, Expected::TextValue),
+    Wanted::Required(SchemaKey::Lo, Expected::Whole),
+    Wanted::Required(SchemaKey::Hi, Expected::Whole),
+];
+
+const OPERAND_KEYS: [Wanted; 1] = [Wanted::Required(SchemaKey::Of, Expected::TextList)];
+
 /// Returns the keys that belong to this kind of column.
 pub fn keys_of_kind(kind: KindName) -> &'static [Wanted]
     ensures { result.now ≡ kind_keys kind }
@@ -187,6 +195,8 @@ pub fn keys_of_kind(kind: KindName) -> &'static [Wanted]
         KindName::Lookup => &LOOKUP_KEYS,
         KindName::List => &LIST_KEYS,
         KindName::BornDate | KindName::ChangedDate => &UNIT_DATE_KEYS,
+        KindName::After => &AFTER_KEYS,
+        KindName::Sum | KindName::Product => &OPERAND_KEYS,
         KindName::Leaf(leaf) => keys_of_leaf(leaf),
     }
 }

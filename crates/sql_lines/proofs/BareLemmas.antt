@@ -4,7 +4,7 @@ use Rattle.std.specs.List.{list_all}
 use Rattle.std.proofs.lemmas.Bool.{cases_lt}
 use Rattle.std.proofs.lemmas.List.{get_or_past, length-map}
 use Rattle.schema_plan.specs.Dictionaries.{Project}
-use Rattle.schema_plan.specs.Layout.{ColumnLayout, KindLayout, LeafLayout, TableLayout, born_kind, case_kind, changed_kind, chars_leaf, column_at, date_leaf, dict_leaf, fixed_leaf, int_leaf, key_kind, layout_of, leaf_kind, list_kind, lookup_kind, no_table, pick_leaf, reference_kind, skew_leaf, table_at, template_kind, unit_date_kind, uuid_leaf, words_leaf}
+use Rattle.schema_plan.specs.Layout.{ColumnLayout, KindLayout, LeafLayout, TableLayout, born_kind, case_kind, changed_kind, chars_leaf, column_at, date_leaf, dict_leaf, fixed_leaf, int_leaf, key_kind, layout_of, leaf_kind, list_kind, lookup_kind, no_table, pick_leaf, reference_kind, skew_leaf, table_at, template_kind, unit_date_kind, after_kind, sum_kind, product_kind, uuid_leaf, words_leaf}
 use Rattle.schema_plan.specs.Limits.{IsInLimits, IsLookupInLimits, IsTableInLimits}
 use Rattle.schema_plan.specs.Ready.{ready_column, ready_columns, ready_kind, ready_leaf}
 use Rattle.schema_plan.specs.declared.ready.ReadyColumn.{ReadyColumn}
@@ -41,6 +41,9 @@ kind-bare delimiter (reference_kind parent window spread nulls drawn) = refl
 kind-bare delimiter (lookup_kind via parent column) = refl
 kind-bare delimiter (list_kind words) = refl
 kind-bare delimiter (unit_date_kind changed start step) = refl
+kind-bare delimiter (after_kind of lo hi) = refl
+kind-bare delimiter (sum_kind of) = refl
+kind-bare delimiter (product_kind of) = refl
 
 -- one that is no lookup
 pub own-bare : (tables : List TableLayout) (delimiter : ℕ) (held : KindLayout) → ((lookup : ReadyLookup) → ready_kind delimiter held ≢ kind.Lookup lookup) →
@@ -55,6 +58,9 @@ own-bare tables delimiter (template_kind parts) other = refl
 own-bare tables delimiter (reference_kind parent window spread nulls drawn) other = refl
 own-bare tables delimiter (list_kind words) other = refl
 own-bare tables delimiter (unit_date_kind changed start step) other = refl
+own-bare tables delimiter (after_kind of lo hi) other = refl
+own-bare tables delimiter (sum_kind of) other = refl
+own-bare tables delimiter (product_kind of) other = refl
 
 -- and one that is
 pub lookup-bare : (tables : List TableLayout) (delimiter : ℕ) (held : KindLayout) (lookup : ReadyLookup) → ready_kind delimiter held ≡ kind.Lookup lookup →
@@ -73,6 +79,9 @@ lookup-bare tables delimiter (case_kind on branches) lookup is = absurd (cc)
 lookup-bare tables delimiter (reference_kind parent window spread nulls drawn) lookup is = absurd (cc)
 lookup-bare tables delimiter (list_kind words) lookup is = absurd (cc)
 lookup-bare tables delimiter (unit_date_kind changed start step) lookup is = absurd (cc)
+lookup-bare tables delimiter (after_kind of lo hi) lookup is = absurd (cc)
+lookup-bare tables delimiter (sum_kind of) lookup is = absurd (cc)
+lookup-bare tables delimiter (product_kind of) lookup is = absurd (cc)
 
 -- as many are kept as there are
 pub columns-many : (plan : Project) (table : ℕ) (columns : List ReadyColumn) → columns ≡ ready_columns (layout_of plan) table → length columns ≡ length (table_of plan table).columns
@@ -103,6 +112,9 @@ shown-by tables delimiter columns place (case_kind on branches) lookup limits is
 shown-by tables delimiter columns place (reference_kind parent window spread nulls drawn) lookup limits is = absurd (cc)
 shown-by tables delimiter columns place (list_kind words) lookup limits is = absurd (cc)
 shown-by tables delimiter columns place (unit_date_kind changed start step) lookup limits is = absurd (cc)
+shown-by tables delimiter columns place (after_kind of lo hi) lookup limits is = absurd (cc)
+shown-by tables delimiter columns place (sum_kind of) lookup limits is = absurd (cc)
+shown-by tables delimiter columns place (product_kind of) lookup limits is = absurd (cc)
 
 module _ (plan : Project) (limits : IsInLimits plan) (table column : ℕ) (below : table < length plan.schema.tables) (within : column < length (table_of plan table).columns)
     (lookup : ReadyLookup) (is : ready_kind (layout_of plan).delimiter (column_at (table_of plan table).columns column).kind ≡ kind.Lookup lookup) where

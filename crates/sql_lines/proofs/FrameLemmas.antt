@@ -10,21 +10,13 @@ use Rattle.life_intervals.specs.Keys.{key_of}
 use Rattle.life_intervals.specs.Rows.{Row}
 use Rattle.row_lines.specs.Lines.{field}
 use Rattle.row_lines.specs.Runs.{RunLinesOf, behind, layout_for, line_for, text_at, text_behind}
+use Rattle.row_lines.proofs.RunListLemmas.{flat_map-range_same}
 use Rattle.row_lines.proofs.RunTextLemmas.{line_for-fields}
 use Rattle.sql_lines.specs.Frames.{FramedColumn, behind_framed, framed, insertion_column, insertion_frame, insertion_from, key_lead, stop_before, update_column, update_frame, update_from}
 use Rattle.sql_lines.specs.Literals.{literal}
 use Rattle.sql_lines.specs.Reading.{field_before, field_behind as behind_field, field_read}
 use Rattle.sql_lines.specs.Statements.{assignment, column_name, insertion, insertion_of, literal_at, table_name, update, update_of, where_key}
 use Rattle.sql_lines.proofs.ReadingLemmas.{field-behind, field-whole, read-back}
-
--- ---- texts of a range that agree
-
-texts-same : (f g : ℕ → List ℕ) (a n : ℕ) → ((k : ℕ) → k < n → f (a + k) ≡ g (a + k)) → flat_map f (range_with_len a n) ≡ flat_map g (range_with_len a n)
-texts-same f g a zero same = refl
-texts-same f g a (suc n) same =
-    let here : a + 0 ≡ a = omega arith in
-    ap₂ (λ (one others : List ℕ). one ++ others) (ap f (sym here) ∙ same 0 (omega arith) ∙ ap g here)
-    (texts-same f g (a + 1) n (λ k below. let next : a + 1 + k ≡ a + suc k = omega arith in ap f next ∙ same (suc k) (omega (arith, below)) ∙ ap g (sym next)))
 
 -- ---- fields one after the other
 
@@ -115,7 +107,7 @@ module _ (lines : RunLinesOf) (ordinal : ℕ) (delimits : IsDelimiter (layout_of
       let one : ℕ → List ℕ = literal_at lines.plan lines.unit lines.table row in
       let comma : ℕ → List ℕ = λ column. codes ", " ++ one column in
       ap (λ (texts : List ℕ). (first ++ one 0) ++ texts)
-      (texts-same (made_of insertion_columns) comma 1 n
+      (flat_map-range_same (made_of insertion_columns) comma 1 n
       (λ k below. ap (λ (test : Bool). (if test then first else codes ", ") ++ one (1 + k)) (ne_eqb (1 + k) 0 (λ same. omega (arith, same)))))
       ∙ append_assoc first (one 0) (flat_map comma (range_with_len 1 n))
 
@@ -154,7 +146,7 @@ module _ (lines : RunLinesOf) (ordinal : ℕ) (delimits : IsDelimiter (layout_of
       let regroup : (lead : List ℕ) (column : ℕ) → (lead ++ name column ++ codes " = ") ++ held column ≡ lead ++ one column = λ lead column.
       ap (λ (text : List ℕ). text ++ held column) (append_assoc lead (name column) (codes " = ")) ∙ append_assoc lead (name column ++ codes " = ") (held column) in
       ap₂ (λ (begin texts : List ℕ). begin ++ texts) (regroup first 1)
-      (texts-same (made_of update_columns) comma 2 n
+      (flat_map-range_same (made_of update_columns) comma 2 n
       (λ k below.
       ap (λ (test : Bool). ((if test then first else codes ", ") ++ name (2 + k) ++ codes " = ") ++ held (2 + k)) (ne_eqb (2 + k) 1 (λ same. omega (arith, same)))
       ∙ regroup (codes ", ") (2 + k)))

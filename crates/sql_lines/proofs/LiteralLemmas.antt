@@ -6,12 +6,14 @@ use Rattle.std.specs.List.{list_all}
 use Rattle.std.specs.Option.{option_and_then, option_map}
 use Rattle.std.proofs.lemmas.Bool.{and_parts, cases_Bool, cases_eq, false≢true, lt-ltb}
 use Rattle.schema_plan.specs.Dictionaries.{Project}
-use Rattle.schema_plan.specs.Layout.{ColumnLayout, LeafLayout, int_leaf, fixed_leaf, date_leaf, pick_leaf, skew_leaf, dict_leaf, words_leaf, chars_leaf, uuid_leaf, KindLayout, key_kind, born_kind, changed_kind, leaf_kind, template_kind, case_kind, reference_kind, lookup_kind, list_kind, unit_date_kind, column_at, table_at}
+use Rattle.schema_plan.specs.Layout.{ColumnLayout, LeafLayout, int_leaf, fixed_leaf, date_leaf, pick_leaf, skew_leaf, dict_leaf, words_leaf, chars_leaf, uuid_leaf, KindLayout, key_kind, born_kind, changed_kind, leaf_kind, template_kind, case_kind, reference_kind, lookup_kind, list_kind, unit_date_kind, after_kind, sum_kind, product_kind, column_at, table_at}
 use Rattle.draw_values.specs.Digits.{pointed, signed_pointed}
-use Rattle.draw_values.specs.Values.{Draws, branch_at, is_null, leaf_value, unless_null}
+use Rattle.draw_values.specs.declared.leaf_numbers.Number.{Number}
+use Rattle.draw_values.specs.Values.{number_text, Draws, branch_at, is_null, leaf_value, unless_null}
 use Rattle.life_intervals.specs.Generator.{Generator, generator_of}
 use Rattle.life_intervals.specs.Rows.{Row}
-use Rattle.row_lines.specs.Lines.{draws_of, field, field_in_table, value, value_in_table}
+use Rattle.row_lines.specs.Lines.{field, field_in_table, value, value_in_table}
+use Rattle.row_lines.specs.RowViews.{draws_of}
 use Rattle.sql_lines.specs.Bare.{is_bare, is_bare_at, is_bare_in_table, is_bare_leaf}
 use Rattle.sql_lines.specs.Literals.{literal, quoted, quoted_text}
 use Rattle.sql_lines.specs.Statements.{literal_at}
@@ -158,6 +160,10 @@ reference-number : (key : ℕ → ℕ) (parent : Option ℕ) → IsNumber (optio
 reference-number key None = tt
 reference-number key (Some parent) = decimal-below (key parent)
 
+total-number : (number : Option Number) → IsNumber (option_map number_text number)
+total-number None = tt
+total-number (Some number) = signed_pointed-below number.decimals number.value
+
 unless-number : (null : ℕ) (draw : Draws) (held : Option (List ℕ)) → IsNumber held → IsNumber (unless_null null draw held)
 unless-number null draw held is = elim (cases_Bool (is_null null draw)) [ inl none ↦ rw none tt | inr there ↦ rw there is ]
 
@@ -173,6 +179,9 @@ module _ (generator : Generator) (place : ℕ) (row : Row) (column : ℕ) where
   in_table (lookup_kind via parent name) is = absurd (false≢true is)
   in_table (list_kind words) is = absurd (false≢true is)
   in_table (unit_date_kind changed start step) is = absurd (false≢true is)
+  in_table (after_kind of lo hi) is = absurd (false≢true is)
+  in_table (sum_kind of) is = total-number _
+  in_table (product_kind of) is = total-number _
 
   field-in_table : is_bare_in_table (column_at (table_at generator.tables place).columns column).kind ≡ true → IsNumber (field_in_table generator place row column)
   field-in_table is =
@@ -195,6 +204,9 @@ value-number generator unit place row column (reference_kind parent window sprea
 value-number generator unit place row column (lookup_kind via parent name) is = held-number generator parent name _ is
 value-number generator unit place row column (list_kind words) is = in_table generator place row column (list_kind words) is
 value-number generator unit place row column (unit_date_kind changed start step) is = in_table generator place row column (unit_date_kind changed start step) is
+value-number generator unit place row column (after_kind of lo hi) is = in_table generator place row column (after_kind of lo hi) is
+value-number generator unit place row column (sum_kind of) is = in_table generator place row column (sum_kind of) is
+value-number generator unit place row column (product_kind of) is = in_table generator place row column (product_kind of) is
 
 bare-same : (field other : Option (List ℕ)) → IsNumber field → IsNumber other → literal true field ≡ literal true other → field ≡ other
 bare-same None None is other_is same = refl

@@ -4,7 +4,7 @@ use Rattle.std.proofs.lemmas.Nat.{mul-le}
 use Rattle.std.proofs.lemmas.List.Sums.{sum_by-cons, sum_by-le-sum_by, sum_by_more_le}
 use Rattle.std.proofs.lemmas.List.{take_all}
 use Rattle.schema_plan.specs.Dictionaries.{Project}
-use Rattle.schema_plan.specs.FieldBounds.{bounds_of, greatest_by}
+use Rattle.schema_plan.specs.FieldSizes.{greatest_by, size_of}
 use Rattle.schema_plan.specs.Layout.{ColumnLayout, Layout, TableLayout, column_at, layout_of, no_column, no_table, table_at}
 use Rattle.schema_plan.specs.Limits.{IsInLimits}
 use Rattle.schema_plan.specs.TableFacts.{max_line}
@@ -29,26 +29,26 @@ sum-split size (column ∷ columns) =
       sum-split size columns,
     )
 
-sum-fields : {A : Type 0} (size : A → ℕ) (bounds : ColumnLayout → A) (columns : List ColumnLayout) → sum_by size (map bounds columns) ≡ sum_by (λ (c : ColumnLayout). size (bounds c)) columns
-sum-fields size bounds [] = refl
-sum-fields size bounds (column ∷ columns) =
-    sum_by-cons size (bounds column) (map bounds columns)
-    ∙ ap (λ (n : ℕ). size (bounds column) + n) (sum-fields size bounds columns)
-    ∙ sym (sum_by-cons (λ (c : ColumnLayout). size (bounds c)) column columns)
+sum-fields : (taken : ℕ → ℕ) (size : ColumnLayout → ℕ) (columns : List ColumnLayout) → sum_by taken (map size columns) ≡ sum_by (λ (c : ColumnLayout). taken (size c)) columns
+sum-fields taken size [] = refl
+sum-fields taken size (column ∷ columns) =
+    sum_by-cons taken (size column) (map size columns)
+    ∙ ap (λ (n : ℕ). taken (size column) + n) (sum-fields taken size columns)
+    ∙ sym (sum_by-cons (λ (c : ColumnLayout). taken (size c)) column columns)
 
 module _ (layout : Layout) (place : ℕ) where
   abbrev table : TableLayout
   table = table_at layout.tables place
 
   abbrev size : ColumnLayout → ℕ
-  size column = (bounds_of layout.delimiter layout.tables table column.kind).size
+  size column = size_of layout.delimiter layout.tables table.columns column.kind
 
   abbrev most : ColumnLayout → ℕ
   most column = 40 + literal_of_column layout table column
 
   line-is : max_line layout place ≡ sum_by (λ (c : ColumnLayout). size c + 1) table.columns
   unfolding max_line
-  line-is = sum-fields _ _ table.columns
+  line-is = sum-fields (λ n. n + 1) size table.columns
 
   columns-few : sum_by most table.columns ≤ 42 * length table.columns + 2 * max_line layout place
   columns-few =
@@ -90,7 +90,7 @@ size_to layout place column =
     128 + sum_by (λ (of : ColumnLayout). 40 + literal_of_column layout (table_at layout.tables place) of) (take column (table_at layout.tables place).columns)
 
 pub literal-is : (plan : Project) (place column : ℕ) (bare : Bool) (size literal : ℕ) → literal ≡ literal_size bare size → bare ≡ is_bare_at plan place column →
-    size ≡ (bounds_of (layout_of plan).delimiter (layout_of plan).tables (table_at (layout_of plan).tables place) (column_at (table_at (layout_of plan).tables place).columns column).kind).size →
+    size ≡ size_of (layout_of plan).delimiter (layout_of plan).tables (table_at (layout_of plan).tables place).columns (column_at (table_at (layout_of plan).tables place).columns column).kind →
     literal ≡ literal_of_column (layout_of plan) (table_at (layout_of plan).tables place) (column_at (table_at (layout_of plan).tables place).columns column)
 literal-is plan place column bare size literal is bare_is size_is = is ∙ ap₂ literal_size bare_is size_is
 

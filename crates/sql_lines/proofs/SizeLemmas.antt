@@ -6,7 +6,7 @@ use Rattle.std.proofs.lemmas.List.Sums.{sum_by-cons}
 use Rattle.row_text.specs.Fields.{escaped, escaped_text, field_text}
 use Rattle.row_text.proofs.EscapeLemmas.{escape, form, itself}
 use Rattle.schema_plan.specs.Dictionaries.{Project}
-use Rattle.schema_plan.specs.FieldBounds.{bounds_of}
+use Rattle.schema_plan.specs.FieldSizes.{size_of}
 use Rattle.schema_plan.specs.Layout.{ColumnLayout, Layout, TableLayout, column_at, layout_of, table_at}
 use Rattle.schema_plan.specs.Rules.{IsAccepted}
 use Rattle.schema_plan.specs.TableFacts.{max_line}
@@ -96,16 +96,16 @@ literal-longer : (bare : Bool) (size : ℕ) → size ≤ literal_size bare size
 literal-longer true size = omega arith
 literal-longer false size = omega arith
 
--- what the bounds of fields give, where it is no more than what each column allows
-sum-fields : {A : Type 0} (bounds : ColumnLayout → A) (size : A → ℕ) (most : ColumnLayout → ℕ) (columns : List ColumnLayout) → ((column : ColumnLayout) → size (bounds column) ≤ most column) →
-    sum_by size (map bounds columns) ≤ sum_by most columns
-sum-fields bounds size most [] each = omega arith
-sum-fields bounds size most (column ∷ columns) each =
+-- what the sizes of fields give, where it is no more than what each column allows
+sum-fields : (size : ColumnLayout → ℕ) (most : ColumnLayout → ℕ) (columns : List ColumnLayout) → ((column : ColumnLayout) → size column + 1 ≤ most column) →
+    sum_by (λ n. n + 1) (map size columns) ≤ sum_by most columns
+sum-fields size most [] each = omega arith
+sum-fields size most (column ∷ columns) each =
     omega (
       arith,
       each column,
-      sum-fields bounds size most columns each,
-      sum_by-cons size (bounds column) (map bounds columns),
+      sum-fields size most columns each,
+      sum_by-cons (λ n. n + 1) (size column) (map size columns),
       sum_by-cons most column columns,
     )
 
@@ -114,11 +114,11 @@ pub line-within : (layout : Layout) (place : ℕ) → max_line layout place ≤ 
 unfolding max_line statement_size
 line-within layout place =
     let table : TableLayout = table_at layout.tables place in
-    let bounds = λ (column : ColumnLayout). bounds_of layout.delimiter layout.tables table column.kind in
+    let size : ColumnLayout → ℕ = λ (column : ColumnLayout). size_of layout.delimiter layout.tables table.columns column.kind in
     omega (
       arith,
-      sum-fields bounds (λ field. field.size + 1) (λ (column : ColumnLayout). 40 + literal_of_column layout table column) table.columns
-          (λ column. omega (arith, literal-longer (is_bare layout.tables column.kind) (bounds column).size)),
+      sum-fields size (λ (column : ColumnLayout). 40 + literal_of_column layout table column) table.columns
+          (λ column. omega (arith, literal-longer (is_bare layout.tables column.kind) (size column))),
     )
 
 -- ---- statements

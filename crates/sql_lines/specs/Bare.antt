@@ -6,7 +6,7 @@ use Rattle.schema_plan.specs.declared.ready.ReadyKind.{ReadyKind}
 use Rattle.schema_plan.specs.declared.ready.ReadyKind.TheVariants as kind
 use Rattle.schema_plan.specs.declared.ready.ReadyLeaf.{ReadyLeaf}
 use Rattle.schema_plan.specs.declared.ready.ReadyLeaf.TheVariants as leaf
-use Rattle.schema_plan.specs.Layout.{LeafLayout, int_leaf, fixed_leaf, skew_leaf, KindLayout, key_kind, born_kind, changed_kind, leaf_kind, case_kind, reference_kind, lookup_kind, TableLayout, column_at, layout_of, table_at}
+use Rattle.schema_plan.specs.Layout.{LeafLayout, int_leaf, fixed_leaf, skew_leaf, KindLayout, key_kind, born_kind, changed_kind, leaf_kind, case_kind, reference_kind, lookup_kind, sum_kind, product_kind, TableLayout, column_at, layout_of, table_at}
 
 -- a value that is drawn for a field alone
 abbrev pub is_bare_leaf : LeafLayout → Bool
@@ -23,6 +23,8 @@ is_bare_in_table changed_kind = true
 is_bare_in_table (leaf_kind leaf) = is_bare_leaf leaf
 is_bare_in_table (case_kind on branches) = list_all is_bare_leaf branches
 is_bare_in_table (reference_kind parent window spread nulls drawn) = true
+is_bare_in_table (sum_kind of) = true
+is_bare_in_table (product_kind of) = true
 is_bare_in_table _ = false
 
 -- a kind of a column of some tables: a lookup is as the column that it shows
@@ -50,4 +52,6 @@ is_bare_ready kind.Changed = true
 is_bare_ready (kind.Drawn drawn) = is_bare_ready_leaf drawn
 is_bare_ready (kind.Case on branches) = list_all is_bare_ready_leaf branches
 is_bare_ready (kind.Reference reference) = true
+is_bare_ready (kind.Sum of) = true
+is_bare_ready (kind.Product of) = true
 is_bare_ready _ = false

@@ -1,6 +1,6 @@
 -- What a statement takes at most, in bytes.
 use Rattle.std.specs.Prelude.{ℕ, ◌+◌, ◌*◌, Bool, true, false, max, sum_by}
-use Rattle.schema_plan.specs.FieldBounds.{bounds_of, greatest_by}
+use Rattle.schema_plan.specs.FieldSizes.{greatest_by, size_of}
 use Rattle.schema_plan.specs.Layout.{ColumnLayout, Layout, TableLayout, table_at}
 use Rattle.sql_lines.specs.Bare.{is_bare}
 
@@ -12,7 +12,7 @@ literal_size false size = 2 * size + 2
 -- what the literal of a column takes
 abbrev pub literal_of_column : Layout → TableLayout → ColumnLayout → ℕ
 literal_of_column layout table column =
-    literal_size (is_bare layout.tables column.kind) (bounds_of layout.delimiter layout.tables table column.kind).size
+    literal_size (is_bare layout.tables column.kind) (size_of layout.delimiter layout.tables table.columns column.kind)
 
 -- what a statement on a table takes: the words and the names of the table and its key, and for each column its name with what stands
 -- around it, and its literal

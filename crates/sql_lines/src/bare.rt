@@ -35,6 +35,7 @@ fn is_bare(kind: &ReadyKind) -> bool
         ReadyKind::Drawn(leaf) => is_bare_leaf(leaf),
         ReadyKind::Case { branches, .. } => are_bare_leaves(branches.as_slice()),
         ReadyKind::Reference(_) => true,
+        ReadyKind::Sum { .. } | ReadyKind::Product { .. } => true,
         _ => false,
     }
 }

@@ -32,7 +32,8 @@ use Rattle.life_intervals.proofs.LiveLemmas.{holds_row-live}
 use Rattle.life_intervals.proofs.ReferenceLemmas.{at_column, reference_at-within}
 use Rattle.life_intervals.proofs.SimulationLemmas.{rows_at-rows_of}
 use Rattle.stream_apply.proofs.KeyedLineLemmas.{bytes_eq-apart}
-use Rattle.row_lines.specs.Lines.{field, held_row, parent_of_row}
+use Rattle.row_lines.specs.Lines.{field, held_row}
+use Rattle.row_lines.specs.RowViews.{parent_of_row}
 use Rattle.row_lines.proofs.FieldLemmas.{field-key}
 use Rattle.row_lines.proofs.HeldRowLemmas.{held_row-live, held_row-none, held_row-unborn}
 use Rattle.row_lines.proofs.LineLemmas.{key_of-by}

@@ -5,7 +5,7 @@ use Rattle.std.proofs.lemmas.List.{get_or-map, length-map}
 use Rattle.std.proofs.lemmas.List.Sums.{get_or-le-sum_by}
 use Rattle.std.proofs.Math.Nat.{mul-div-le, mul-le-mul_left, mul-le-mul_right, mul-div_left}
 use Rattle.schema_plan.specs.Dictionaries.{Project}
-use Rattle.schema_plan.specs.FieldBounds.{bounds_of, bounds_of_fields}
+use Rattle.schema_plan.specs.FieldSizes.{field_sizes, size_of}
 use Rattle.schema_plan.specs.Layout.{ColumnLayout, KindLayout, Layout, TableLayout, column_at, key_kind, layout_of, no_column, no_table, table_at}
 use Rattle.schema_plan.specs.Limits.{IsInLimits, IsTableInLimits}
 use Rattle.schema_plan.specs.TableFacts.{max_line, reach}
@@ -69,8 +69,8 @@ share-room plan size most share few =
     omega (arith, less, more)
 
 -- a line holds its table's key, and a line feed behind it or a delimiter
-key_size : (delimiter : ℕ) (tables : List TableLayout) (table : TableLayout) (kind : KindLayout) → kind ≡ key_kind → (bounds_of delimiter tables table kind).size ≡ 20
-key_size delimiter tables table kind is = ap (λ (k : KindLayout). (bounds_of delimiter tables table k).size) is
+key_size : (delimiter : ℕ) (tables : List TableLayout) (columns : List ColumnLayout) (kind : KindLayout) → kind ≡ key_kind → size_of delimiter tables columns kind ≡ 20
+key_size delimiter tables columns kind is = ap (size_of delimiter tables columns) is
 
 pub key_line-reach : (plan : Project) → IsInLimits plan → KEY_LINE ≤ reach (layout_of plan)
 unfolding max_line
@@ -78,13 +78,13 @@ key_line-reach plan limits =
     let layout : Layout = layout_of plan in
     let table : TableLayout = table_at layout.tables 0 in
     let known : IsTableInLimits (last_unit plan) table = limits.tables 0 no_table (place-below plan 0 limits.some_table) in
-    let bounds = λ (column : ColumnLayout). bounds_of layout.delimiter layout.tables table column.kind in
-    let fields = bounds_of_fields layout.delimiter layout.tables table in
-    let one : 0 < length fields = omega (arith, known.some_column, length-map table.columns bounds) in
-    let first : (get_or fields 0 (bounds no_column)).size ≡ 20 =
-    ap (λ field. field.size) (get_or-map bounds table.columns 0 no_column (bounds no_column) (omega (arith, known.some_column)))
-    ∙ key_size layout.delimiter layout.tables table (column_at table.columns 0).kind known.key_first in
-    omega (arith, first, get_or-le-sum_by (λ field. field.size + 1) fields 0 (bounds no_column) one, max_line-reach layout 0)
+    let size : ColumnLayout → ℕ = λ (column : ColumnLayout). size_of layout.delimiter layout.tables table.columns column.kind in
+    let fields : List ℕ = field_sizes layout.delimiter layout.tables table.columns in
+    let one : 0 < length fields = omega (arith, known.some_column, length-map table.columns size) in
+    let first : get_or fields 0 (size no_column) ≡ 20 =
+    get_or-map size table.columns 0 no_column (size no_column) (omega (arith, known.some_column))
+    ∙ key_size layout.delimiter layout.tables table.columns (column_at table.columns 0).kind known.key_first in
+    omega (arith, first, get_or-le-sum_by (λ n. n + 1) fields 0 (size no_column) one, max_line-reach layout 0)
 
 most-within : (plan : Project) → IsInLimits plan → (place : ℕ) (told : Content) → most_bytes plan place told ≤ reach (layout_of plan)
 most-within plan limits place content.Snapshot = max_line-reach (layout_of plan) place

@@ -1,12 +1,15 @@
-use Rattle.std.proofs.Common.{◌∙◌, ◌+◌, ap}
-use Rattle.schema_plan.specs.declared.field_bounds.FieldBounds.{FieldBounds}
-use Rattle.schema_plan.specs.Capped.{capped, capped_bounds}
+use Rattle.std.proofs.Common.{◌∙◌, ◌+◌, ap, map, rules, w64}
+use Rattle.std.proofs.lemmas.Int.{to_z-of_z}
+use mir.Val.{SFits}
+use Rattle.schema_plan.specs.Counts.{count}
+use Rattle.schema_plan.specs.Capped.{capped, capped_column}
+use Rattle.schema_plan.specs.ColumnFacts.{facts_of_columns}
 use Rattle.schema_plan.specs.Dictionaries.{project_of}
-use Rattle.schema_plan.specs.FieldBounds.{bounds_of_fields}
-use Rattle.schema_plan.specs.Layout.{keys_of, layout_of, table_layout, table_layouts}
+use Rattle.schema_plan.specs.FieldSizes.{field_sizes}
+use Rattle.schema_plan.specs.Layout.{column_layout, keys_of, layout_of, table_layout, table_layouts}
 use Rattle.schema_plan.specs.Lineage.{one_if}
-use Rattle.schema_plan.specs.TableFacts.{line_bounds}
-use Rattle.schema_plan.proofs.FactsLemmas.{facts_are, lineage_is, bool_byte-is}
+use Rattle.schema_plan.specs.TableFacts.{line_size}
+use Rattle.schema_plan.proofs.FactsLemmas.{columns_are, facts_are, lineage_is, bool_byte-is}
 use Rattle.schema_plan.proofs.facts.facts_of.Goals as goal
 
 pub returns : goal.returns
@@ -17,15 +20,24 @@ returns c =
     let place = c.args.place in
     let table = c.index-tables-place.result in
     let lineage = c.lineage_of-lineage.result in
+    let columns = c.facts_of_columns-columns.result in
     let same = c.as_slice-tables.ensures in
-    let line = c.line_bounds-line.ensures
-    ∙ ap (λ delimiter. capped_bounds (line_bounds (bounds_of_fields delimiter (table_layouts dictionaries c.as_slice-tables.result.now) (table_layout dictionaries c.as_slice-tables.result.now table)))) c.delimiter_byte.ensures
-    ∙ ap (λ tables. capped_bounds (line_bounds (bounds_of_fields (layout_of project).delimiter (table_layouts dictionaries tables) (table_layout dictionaries tables table)))) same in
-    facts_are project place table c.keys_of.result lineage c.from.result c.line_bounds-line.result.permutations c.line_bounds-line.result.size c.saturating_add-2.result
-    c.requires.place (rw same at c.index-tables-place.is) (c.keys_of.ensures ∙ ap keys_of c.as_slice.ensures)
-    (lineage_is project place table c.args.earlier.now c.lineage_of-lineage.result c.requires.place (rw same at c.index-tables-place.is) c.requires.earlier (rw same at (c.lineage_of-lineage.ensures dictionaries)))
+    let units_fit : SFits w64 schema.units = search rules in
+    let is = rw same at c.index-tables-place.is in
+    let line = c.line_size.ensures
+    ∙ ap (λ delimiter. capped (line_size (field_sizes delimiter (table_layouts dictionaries c.as_slice-tables.result.now) (map (column_layout dictionaries c.as_slice-tables.result.now c.as_slice-2.result.now) c.as_slice-2.result.now)))) c.delimiter_byte.ensures
+    ∙ ap (λ own. capped (line_size (field_sizes (layout_of project).delimiter (table_layouts dictionaries c.as_slice-tables.result.now) (map (column_layout dictionaries c.as_slice-tables.result.now own) own)))) c.as_slice-2.ensures
+    ∙ ap (λ tables. capped (line_size (field_sizes (layout_of project).delimiter (table_layouts dictionaries tables) (map (column_layout dictionaries tables table.columns) table.columns)))) same in
+    facts_are project place table c.keys_of.result lineage columns c.from.result c.sum_of_costs.result c.line_size.result c.saturating_add-2.result
+    c.requires.place is (c.keys_of.ensures ∙ ap keys_of c.as_slice.ensures)
+    (lineage_is project place table c.args.earlier.now lineage c.requires.place is c.requires.earlier (rw same at (c.lineage_of-lineage.ensures dictionaries)))
+    (columns_are project place table c.args.earlier.now columns c.requires.place is c.requires.earlier (λ given premise.
+    c.facts_of_columns-columns.ensures dictionaries given premise
+    ∙ ap (λ units. map capped_column (facts_of_columns units (table_layouts dictionaries c.as_slice-tables.result.now) given (table_layout dictionaries c.as_slice-tables.result.now table))) (c.count.ensures ∙ ap count (to_z-of_z w64 schema.units units_fit))
+    ∙ ap (λ tables. map capped_column (facts_of_columns (layout_of project).units (table_layouts dictionaries tables) given (table_layout dictionaries tables table))) same))
     (c.from.ensures ∙ bool_byte-is c.is_some.result ∙ ap one_if c.is_some.ensures)
-    (ap (λ (b : FieldBounds). b.permutations) line) (ap (λ (b : FieldBounds). b.size) line)
+    c.sum_of_costs.ensures
+    line
     (c.saturating_add-2.ensures
     ∙ ap (λ n. capped (n + c.saturating_add.result)) c.saturating_add-death.ensures
     ∙ ap (λ n. capped (capped (lineage.death_cost + 1) + n))

@@ -1,5 +1,5 @@
 use Rattle.std.proofs.Common.{◌≡◌, take}
-use Rattle.schema_plan.specs.FieldBounds.{greatest_by}
+use Rattle.schema_plan.specs.FieldSizes.{greatest_by}
 use Rattle.schema_plan.proofs.facts.greatest_line.Given as goal
 
 abbrev pub invariant-loop-fact : goal.invariant-loop-fact

@@ -2,7 +2,7 @@ use Rattle.std.proofs.Common.{◌≡◌, ◌∙◌, ap, sym, arith, max}
 use Rattle.std.proofs.lemmas.Grind.{common_steps}
 use Rattle.std.proofs.lemmas.List.{take_all}
 use Rattle.std.proofs.lemmas.Option.{get_or_from_slice_get, slice_get_within}
-use Rattle.schema_plan.specs.FieldBounds.{greatest_by, written_size}
+use Rattle.schema_plan.specs.FieldSizes.{greatest_by, written_size}
 use Rattle.schema_plan.proofs.Capping.{greatest_more}
 use Rattle.schema_plan.proofs.word_lists.greatest_entry.Goals as goal
 

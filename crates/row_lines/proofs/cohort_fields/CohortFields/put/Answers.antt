@@ -5,12 +5,15 @@ use Rattle.schema_plan.specs.declared.ready.ReadyColumn.{ReadyColumn}
 use Rattle.schema_plan.specs.declared.ready.ReadyKind.TheVariants.{Key, Reference}
 use Rattle.schema_plan.specs.declared.ready.ReadyReference.{ReadyReference}
 use Rattle.life_intervals.specs.CohortParents.{IsReferenceOf, reference_by}
-use Rattle.row_lines.specs.CohortLines.{LinesOf, key_for, layout_for, reference_value, text_in_table}
-use Rattle.row_lines.proofs.CohortFieldLemmas.{AreFieldsOf-view, asked_by-key, key_from_ready, key_never_null, own_from_ready, ready_at, size-key, text-key}
+use Rattle.row_lines.specs.CohortLines.{AreFieldsOf, LinesOf, key_for, layout_for, reference_value, text_in_table}
+use Rattle.row_lines.proofs.CohortFieldLemmas.{AreFieldsOf-view, asked_by-key, column_here, derived_from_ready, key_from_ready, key_never_null, own_from_ready, ready_at, size-key, text-key}
 use Rattle.row_lines.proofs.FieldLemmas.{length-decimal-le_20}
 use Rattle.row_lines.proofs.ReferenceFieldLemmas.{asked_by-reference, size-reference, text-reference}
 use Rattle.row_lines.proofs.cohort_fields.CohortFields.put.Goals as goal
 use Rattle.row_lines.proofs.cohort_fields.CohortFields.put.Goals.{After-index-columns-column}
+
+known : (g : _) (c : After-index-columns-column g) → AreFieldsOf c.args.self.now c.self.inside.columns.now c.self.inside.first
+known g c = AreFieldsOf-view _ c.args.self.now c.self.inside.columns.now c.self.inside.first c.self.view_is c.self.invariant
 
 -- the column is the key
 is_key : (g : _) (c : After-index-columns-column g) → c.index-columns-column.result.kind ≡ Key → (column_at (layout_for c.args.self.now).columns c.args.column).kind ≡ key_kind
@@ -35,7 +38,12 @@ put_own-requires-clause-own g c =
     let known = AreFieldsOf-view _ lines c.self.inside.columns.now c.self.inside.first c.self.view_is c.self.invariant in
     let column = c.index-columns-column.result in
     let is = ready_at lines _ known.columns_are c.args.column column c.requires.column c.index-columns-column.is in
-    own_from_ready (layout_of lines.plan).delimiter _ c.requires.no_lookup (λ key. c.in_default.not-Key (ap (λ (ready : ReadyColumn). ready.kind) (sym (is ∙ c.index-columns-column.is)) ∙ key))
+    own_from_ready (layout_of lines.plan).delimiter _ c.requires.no_lookup
+    (derived_from_ready (layout_of lines.plan).delimiter _
+    (λ after held. c.in_default.not-After after (ap (λ (ready : ReadyColumn). ready.kind) (sym (is ∙ c.index-columns-column.is)) ∙ held))
+    (λ of held. c.in_default.not-Sum of (ap (λ (ready : ReadyColumn). ready.kind) (sym (is ∙ c.index-columns-column.is)) ∙ held))
+    (λ of held. c.in_default.not-Product of (ap (λ (ready : ReadyColumn). ready.kind) (sym (is ∙ c.index-columns-column.is)) ∙ held)))
+    (λ key. c.in_default.not-Key (ap (λ (ready : ReadyColumn). ready.kind) (sym (is ∙ c.index-columns-column.is)) ∙ key))
     (λ parts template. c.in_default.not-Template parts (ap (λ (ready : ReadyColumn). ready.kind) (sym (is ∙ c.index-columns-column.is)) ∙ template))
     (λ reference held. c.in_default.not-Reference reference (ap (λ (ready : ReadyColumn). ready.kind) (sym (is ∙ c.index-columns-column.is)) ∙ held))
 
@@ -70,7 +78,7 @@ pub returns-in-Key-clause-steps : goal.returns-in-Key-clause-steps
 returns-in-Key-clause-steps g c =
     let at = (goal.at.returns-in-Key-clause-steps g c).After-index-columns-column in
     let held = ap (λ (column : ReadyColumn). column.kind) c.index-columns-column.is ∙ c.in-Key.is in
-    omega (arith, c.key.ensures.steps, asked_by-key (is_some c.args.key) c.args.self.now c.args.column (is_key g at held))
+    omega (arith, c.key.ensures.steps, asked_by-key (is_some c.args.key) c.args.self.now c.args.column (column_here c.args.self.now _ _ (known g at) c.args.column key_kind c.requires.column (is_key g at held)))
 
 -- the column is a reference
 here : (g : _) (c : After-index-columns-column g) (reference : ReadyReference) → c.index-columns-column.result.kind ≡ Reference reference → IsReferenceOf c.args.self.now.plan c.args.self.now.table c.args.column reference
@@ -124,4 +132,4 @@ pub returns-in-Reference-clause-steps : goal.returns-in-Reference-clause-steps
 returns-in-Reference-clause-steps g c =
     let at = (goal.at.returns-in-Reference-clause-steps g c).After-index-columns-column in
     let held = ap (λ (column : ReadyColumn). column.kind) c.index-columns-column.is ∙ c.in-Reference.is in
-    omega (arith, c.put_reference.ensures.steps, asked_by-reference (is_some c.args.key) c.args.self.now c.args.column c.in-Reference.reference (here g at c.in-Reference.reference held))
+    omega (arith, c.put_reference.ensures.steps, asked_by-reference (is_some c.args.key) c.args.self.now c.args.column c.in-Reference.reference (known g at).table (known g at).limits (here g at c.in-Reference.reference held))

@@ -1,7 +1,8 @@
-use Rattle.std.proofs.Common.{◌≡◌, ◌<◌, ◌^◌, ◌++◌, ℕ, List, true, ap, sym, ◌∙◌, arith, decimal, is_some, length}
+use Rattle.std.proofs.Common.{◌≡◌, ◌<◌, ◌^◌, ◌++◌, ℕ, List, false, true, ap, sym, ◌∙◌, arith, decimal, is_some, length}
 use Rattle.schema_plan.specs.Layout.{column_at, key_kind, layout_of}
+use Rattle.schema_plan.specs.declared.ready.ReadyAfter.{ReadyAfter}
 use Rattle.schema_plan.specs.declared.ready.ReadyColumn.{ReadyColumn}
-use Rattle.schema_plan.specs.declared.ready.ReadyKind.TheVariants.{Key, Reference}
+use Rattle.schema_plan.specs.declared.ready.ReadyKind.TheVariants.{After, Key, Product, Reference, Sum}
 use Rattle.schema_plan.specs.declared.ready.ReadyReference.{ReadyReference}
 use Rattle.schema_plan.specs.Ready.{ready_column}
 use Rattle.life_intervals.specs.CohortParents.{IsReferenceOf, reference_by}
@@ -9,7 +10,7 @@ use Rattle.draw_values.specs.CohortValues.{ValuesOf, table_for as layout_of_valu
 use Rattle.draw_values.specs.Values.{is_own, put_of, written}
 use Rattle.row_lines.specs.CohortLines.{AreFieldsOf, LinesOf, key_for, layout_for, ordinal_of, reference_value}
 use Rattle.row_lines.specs.Parts.{cited_for, cited_size, cited_text}
-use Rattle.row_lines.proofs.CohortFieldLemmas.{AreFieldsOf-view, asked-key, held-key, key_from_ready, key_never_null, ready_at}
+use Rattle.row_lines.proofs.CohortFieldLemmas.{AreFieldsOf-view, asked-key, column_here, derived_from_ready, held-key, is_derived, key_from_ready, key_never_null, ready_at}
 use Rattle.row_lines.proofs.FieldLemmas.{length-decimal-le_20}
 use Rattle.row_lines.proofs.ReferenceFieldLemmas.{asked-reference, held-reference, size-reference}
 use Rattle.row_lines.proofs.PartLemmas.{cited_for-held, cited_for-own, cited_size-key, cited_text-number, length-written, own_from_cited, size_for-cited}
@@ -27,11 +28,18 @@ is_key : (g : _) (c : After-index-columns-column g) → c.index-columns-column.r
 is_key g c key =
     key_from_ready (layout_of c.args.self.now.plan).delimiter _ (ap (λ (column : ReadyColumn). column.kind) (ready g c) ∙ key)
 
+-- or not made of other columns
+underived : (g : _) (c : After-index-columns-column g) → ((after : ReadyAfter) → c.index-columns-column.result.kind ≡ After after → ⊥) → ((of : List ℕ) → c.index-columns-column.result.kind ≡ Sum of → ⊥) →
+    ((of : List ℕ) → c.index-columns-column.result.kind ≡ Product of → ⊥) → is_derived (column_at (layout_for c.args.self.now).columns c.args.column).kind ≡ false
+underived g c no_after no_sum no_product =
+    derived_from_ready (layout_of c.args.self.now.plan).delimiter _ (λ after held. no_after after (ap (λ (column : ReadyColumn). column.kind) (sym (ready g c)) ∙ held))
+    (λ of held. no_sum of (ap (λ (column : ReadyColumn). column.kind) (sym (ready g c)) ∙ held)) (λ of held. no_product of (ap (λ (column : ReadyColumn). column.kind) (sym (ready g c)) ∙ held))
+
 -- or made of units and of draws
-is_own_column : (g : _) (c : After-index-columns-column g) → (c.index-columns-column.result.kind ≡ Key → ⊥) → ((reference : ReadyReference) → c.index-columns-column.result.kind ≡ Reference reference → ⊥) →
+is_own_column : (g : _) (c : After-index-columns-column g) → is_derived (column_at (layout_for c.args.self.now).columns c.args.column).kind ≡ false → (c.index-columns-column.result.kind ≡ Key → ⊥) → ((reference : ReadyReference) → c.index-columns-column.result.kind ≡ Reference reference → ⊥) →
     is_own (column_at (layout_for c.args.self.now).columns c.args.column).kind ≡ true
-is_own_column g c no_key no_reference =
-    own_from_cited (layout_of c.args.self.now.plan).delimiter _ c.requires.column.cited
+is_own_column g c no_derived no_key no_reference =
+    own_from_cited (layout_of c.args.self.now.plan).delimiter _ c.requires.column.cited no_derived
     (λ key. no_key (ap (λ (column : ReadyColumn). column.kind) (sym (ready g c)) ∙ key))
     (λ reference held. no_reference reference (ap (λ (column : ReadyColumn). column.kind) (sym (ready g c)) ∙ held))
 
@@ -77,6 +85,7 @@ put-requires-clause-own g c =
     let here = (goal.at.put-requires-clause-own g c).After-index-columns-column in
     ap (λ (of : ValuesOf). is_own (column_at (layout_of_values of).columns c.args.column).kind) c.requires.values
     ∙ is_own_column g here
+    (underived g here (λ after held. c.in_default.not-After after (ap (λ (column : ReadyColumn). column.kind) (sym c.index-columns-column.is) ∙ held)) (λ of held. c.in_default.not-Sum of (ap (λ (column : ReadyColumn). column.kind) (sym c.index-columns-column.is) ∙ held)) (λ of held. c.in_default.not-Product of (ap (λ (column : ReadyColumn). column.kind) (sym c.index-columns-column.is) ∙ held)))
     (λ key. c.in_default.not-Key (ap (λ (column : ReadyColumn). column.kind) (sym c.index-columns-column.is) ∙ key)) (λ reference held. c.in_default.not-Reference reference (ap (λ (column : ReadyColumn). column.kind) (sym c.index-columns-column.is) ∙ held))
 
 pub put-requires-clause-room : goal.put-requires-clause-room
@@ -87,18 +96,18 @@ put-requires-clause-room g c =
     omega (arith, taken, c.requires.room)
 
 -- what is put is what the column holds
-held_is : (g : _) (c : After-index-columns-column g) (ordinal : ℕ) → ordinal ≡ ordinal_of c.args.self.now c.args.index → (c.index-columns-column.result.kind ≡ Key → ⊥) → ((reference : ReadyReference) → c.index-columns-column.result.kind ≡ Reference reference → ⊥) →
+held_is : (g : _) (c : After-index-columns-column g) (ordinal : ℕ) → ordinal ≡ ordinal_of c.args.self.now c.args.index → is_derived (column_at (layout_for c.args.self.now).columns c.args.column).kind ≡ false → (c.index-columns-column.result.kind ≡ Key → ⊥) → ((reference : ReadyReference) → c.index-columns-column.result.kind ≡ Reference reference → ⊥) →
     cited_for c.args.self.now c.args.index c.args.values.now.changed c.args.column ≡ value_for c.args.values.now c.args.column ordinal
-held_is g c ordinal ordinal_is no_key no_reference =
+held_is g c ordinal ordinal_is no_derived no_key no_reference =
     cited_for-own c.args.self.now c.args.values.now c.args.column c.args.index c.args.values.now.changed ordinal c.requires.column c.requires.values
-    ordinal_is (is_own_column g c no_key no_reference) (known g c).born c.requires.row
+    ordinal_is (is_own_column g c no_derived no_key no_reference) (known g c).born c.requires.row
 
-text_is_own : (g : _) (c : After-index-columns-column g) (ordinal : ℕ) → ordinal ≡ ordinal_of c.args.self.now c.args.index → (c.index-columns-column.result.kind ≡ Key → ⊥) → ((reference : ReadyReference) → c.index-columns-column.result.kind ≡ Reference reference → ⊥) →
+text_is_own : (g : _) (c : After-index-columns-column g) (ordinal : ℕ) → ordinal ≡ ordinal_of c.args.self.now c.args.index → is_derived (column_at (layout_for c.args.self.now).columns c.args.column).kind ≡ false → (c.index-columns-column.result.kind ≡ Key → ⊥) → ((reference : ReadyReference) → c.index-columns-column.result.kind ≡ Reference reference → ⊥) →
     cited_text c.args.self.now c.args.index c.args.values.now.changed c.args.column
     ≡ written (layout_of c.args.values.now.plan).delimiter (value_for c.args.values.now c.args.column ordinal)
-text_is_own g c ordinal ordinal_is no_key no_reference =
+text_is_own g c ordinal ordinal_is no_derived no_key no_reference =
     let value = value_for c.args.values.now c.args.column ordinal in
-    ap (written (layout_of c.args.self.now.plan).delimiter) (held_is g c ordinal ordinal_is no_key no_reference)
+    ap (written (layout_of c.args.self.now.plan).delimiter) (held_is g c ordinal ordinal_is no_derived no_key no_reference)
     ∙ sym (ap (λ (of : ValuesOf). written (layout_of of.plan).delimiter value) c.requires.values)
 
 pub returns-in_default-clause-text : goal.returns-in_default-clause-text
@@ -106,6 +115,7 @@ returns-in_default-clause-text g c =
     c.put.ensures.text
     ∙ ap (λ (text : List ℕ). record { text = c.args.buf.now.text ++ text; room = c.args.buf.now.room })
     (sym (text_is_own g (goal.at.returns-in_default-clause-text g c).After-index-columns-column c.ordinal.result c.ordinal.ensures.ordinal
+    (underived g (goal.at.returns-in_default-clause-text g c).After-index-columns-column (λ after held. c.in_default.not-After after (ap (λ (column : ReadyColumn). column.kind) (sym c.index-columns-column.is) ∙ held)) (λ of held. c.in_default.not-Sum of (ap (λ (column : ReadyColumn). column.kind) (sym c.index-columns-column.is) ∙ held)) (λ of held. c.in_default.not-Product of (ap (λ (column : ReadyColumn). column.kind) (sym c.index-columns-column.is) ∙ held)))
     (λ key. c.in_default.not-Key (ap (λ (column : ReadyColumn). column.kind) (sym c.index-columns-column.is) ∙ key)) (λ reference held. c.in_default.not-Reference reference (ap (λ (column : ReadyColumn). column.kind) (sym c.index-columns-column.is) ∙ held))))
 
 pub returns-in_default-clause-size : goal.returns-in_default-clause-size
@@ -114,7 +124,7 @@ returns-in_default-clause-size g c =
     let value = value_for c.args.values.now c.args.column c.ordinal.result in
     let taken : value_size_for c.args.values.now c.args.column ≡ cited_size c.args.self.now c.args.column =
     ap (λ (of : ValuesOf). value_size_for of c.args.column) c.requires.values ∙ size_for-cited c.args.self.now c.args.column c.requires.column in
-    let is = text_is_own g here c.ordinal.result c.ordinal.ensures.ordinal (λ key. c.in_default.not-Key (ap (λ (column : ReadyColumn). column.kind) (sym c.index-columns-column.is) ∙ key)) (λ reference held. c.in_default.not-Reference reference (ap (λ (column : ReadyColumn). column.kind) (sym c.index-columns-column.is) ∙ held)) in
+    let is = text_is_own g here c.ordinal.result c.ordinal.ensures.ordinal (underived g here (λ after held. c.in_default.not-After after (ap (λ (column : ReadyColumn). column.kind) (sym c.index-columns-column.is) ∙ held)) (λ of held. c.in_default.not-Sum of (ap (λ (column : ReadyColumn). column.kind) (sym c.index-columns-column.is) ∙ held)) (λ of held. c.in_default.not-Product of (ap (λ (column : ReadyColumn). column.kind) (sym c.index-columns-column.is) ∙ held))) (λ key. c.in_default.not-Key (ap (λ (column : ReadyColumn). column.kind) (sym c.index-columns-column.is) ∙ key)) (λ reference held. c.in_default.not-Reference reference (ap (λ (column : ReadyColumn). column.kind) (sym c.index-columns-column.is) ∙ held)) in
     omega (
       arith,
       ap (λ (text : List ℕ). length text) is,
@@ -183,13 +193,13 @@ pub returns-in-Reference-clause-steps : goal.returns-in-Reference-clause-steps
 returns-in-Reference-clause-steps g c =
     let at = (goal.at.returns-in-Reference-clause-steps g c).After-index-columns-column in
     let held = ap (λ (column : ReadyColumn). column.kind) c.index-columns-column.is ∙ c.in-Reference.is in
-    omega (arith, c.put_parent.ensures.steps, asked-reference (is_some c.args.key) c.args.self.now c.args.column c.in-Reference.reference (here g at c.in-Reference.reference held))
+    omega (arith, c.put_parent.ensures.steps, asked-reference (is_some c.args.key) c.args.self.now c.args.column c.in-Reference.reference (known g at).table (known g at).limits (here g at c.in-Reference.reference held))
 
 pub returns-in-Key-clause-steps : goal.returns-in-Key-clause-steps
 returns-in-Key-clause-steps g c =
     let at = (goal.at.returns-in-Key-clause-steps g c).After-index-columns-column in
     let held = ap (λ (column : ReadyColumn). column.kind) c.index-columns-column.is ∙ c.in-Key.is in
-    omega (arith, c.key.ensures.steps, asked-key (is_some c.args.key) c.args.self.now c.args.column (is_key g at held))
+    omega (arith, c.key.ensures.steps, asked-key (is_some c.args.key) c.args.self.now c.args.column (column_here c.args.self.now _ _ (known g at) c.args.column key_kind c.requires.column.within (is_key g at held)))
 
 -- whether it is null
 pub returns-in-Key-clause-put : goal.returns-in-Key-clause-put
@@ -215,4 +225,5 @@ pub returns-in_default-clause-put : goal.returns-in_default-clause-put
 returns-in_default-clause-put g c =
     c.put.ensures.put
     ∙ sym (ap put_of (held_is g (goal.at.returns-in_default-clause-put g c).After-index-columns-column c.ordinal.result c.ordinal.ensures.ordinal
+    (underived g (goal.at.returns-in_default-clause-put g c).After-index-columns-column (λ after held. c.in_default.not-After after (ap (λ (column : ReadyColumn). column.kind) (sym c.index-columns-column.is) ∙ held)) (λ of held. c.in_default.not-Sum of (ap (λ (column : ReadyColumn). column.kind) (sym c.index-columns-column.is) ∙ held)) (λ of held. c.in_default.not-Product of (ap (λ (column : ReadyColumn). column.kind) (sym c.index-columns-column.is) ∙ held)))
     (λ key. c.in_default.not-Key (ap (λ (column : ReadyColumn). column.kind) (sym c.index-columns-column.is) ∙ key)) (λ reference held. c.in_default.not-Reference reference (ap (λ (column : ReadyColumn). column.kind) (sym c.index-columns-column.is) ∙ held))))

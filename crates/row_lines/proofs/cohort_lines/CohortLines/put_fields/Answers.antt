@@ -1,11 +1,11 @@
-use Rattle.std.proofs.Common.{◌≡◌, ◌<◌, ◌==◌, ◌++◌, if◌then◌else◌, [], ◌∷◌, ℕ, List, length, map, codes, ap, ◌∙◌, arith, length-append}
+use Rattle.std.proofs.Common.{◌≡◌, ◌<◌, ◌==◌, ◌++◌, if◌then◌else◌, [], ◌∷◌, ℕ, List, length, map, codes, true, ap, ◌∙◌, arith, length-append}
 use Rattle.std.specs.List.{join_with_byte, range_with_len}
 use Rattle.std.proofs.lemmas.List.{append_assoc}
 use Rattle.std.proofs.lemmas.List.Sums.{sum_by-take-le, sum_by_more, sum_by_more_le}
 use Rattle.schema_plan.specs.Layout.{ColumnLayout, layout_of, no_column}
 use Rattle.line_pages.specs.Pages.{Page}
-use Rattle.row_lines.specs.CohortLines.{LinesOf, layout_for, text_in_cohort}
-use Rattle.row_lines.proofs.CohortLineLemmas.{AreLinesOf-view, asked_for_line-is, asked_in, length-delimiter, line_in_cohort-fields, max_line-columns, room_in}
+use Rattle.row_lines.specs.CohortLines.{LinesOf, asked_for, layout_for, text_in_cohort}
+use Rattle.row_lines.proofs.CohortLineLemmas.{AreLinesOf-view, asked_before, asked_for_line-is, length-delimiter, line_in_cohort-fields, max_line-columns, room_in, sum_by-range_more}
 use Rattle.draw_values.proofs.JoinLemmas.{join_with_byte-range_more}
 use Rattle.row_lines.proofs.CohortFieldLemmas.{length-columns}
 use Rattle.row_lines.proofs.cohort_lines.CohortLines.put_fields.Goals as goal
@@ -58,7 +58,7 @@ loop-column-preserved g c =
           ∙ ap (λ (page : Page). page.text ++ own) c.put_delimiter.ensures
           ∙ ap (λ (d : ℕ). (c.loop-column.buf.text ++ (if n == 0 then [] else d ∷ [])) ++ own) known.delimiter
           ∙ join_with_byte-range_more delimiter (text_in_cohort lines c.args.index) n c.args.buf.now.text c.loop-column.buf.text c.loop-column.invariant.text;
-      steps = omega (arith, c.loop-column.invariant.steps, c.put_field.ensures.steps, sum_by_more (asked_in lines) columns n no_column below);
+      steps = omega (arith, c.loop-column.invariant.steps, c.put_field.ensures.steps, sum_by-range_more (asked_for true lines) n);
       room = ap (λ (page : Page). page.room) c.put_field.ensures.text ∙ ap (λ (page : Page). page.room) c.put_delimiter.ensures ∙ c.loop-column.invariant.room;
       short = omega (
         arith,
@@ -131,4 +131,6 @@ returns-clause-size g c =
 pub returns-clause-steps : goal.returns-clause-steps
 returns-clause-steps g c =
     let lines : LinesOf = c.args.self.now in
-    omega (arith, c.loop-column.invariant.steps, sum_by-take-le (asked_in lines) (layout_for lines).columns c.loop-column.column, asked_for_line-is lines)
+    let known = AreLinesOf-view _ lines c.self.inside.columns.now c.self.inside.fields c.self.inside.delimiter c.self.view_is c.self.invariant in
+    let all : c.loop-column.column ≡ length (layout_for lines).columns = omega (arith, length-columns lines _ known.columns_are, c.loop-column-test.false, c.loop-column.auto.column-end) in
+    omega (arith, c.loop-column.invariant.steps, ap (asked_before lines) all, asked_for_line-is lines)

@@ -1,9 +1,9 @@
 use Rattle.std.proofs.Common.{◌≡◌, ◌<◌, ◌≤◌, ◌+◌, ◌-◌, ◌++◌, ℕ, List, false, length, ap, arith, subst, sym, ◌∙◌}
 use Rattle.cohort_sizes.specs.Births.{LiesIn, birth, cohort_size, first_ordinal}
 use Rattle.schema_plan.specs.Dictionaries.{Project}
-use Rattle.schema_plan.specs.FieldBounds.{bounds_at}
+use Rattle.schema_plan.specs.FieldSizes.{size_at}
 use Rattle.schema_plan.specs.Layout.{layout_of}
-use Rattle.schema_plan.specs.Limits.{IsStillColumn, IsTableInLimits}
+use Rattle.schema_plan.specs.Limits.{IsInLimits, IsStillColumn, IsTableInLimits}
 use Rattle.life_intervals.specs.Generator.{last_unit, rows_in_all, table_of}
 use Rattle.cohort_sizes.proofs.CohortLemmas.{born_count-le}
 use Rattle.row_lines.specs.CohortLines.{LinesOf, asked_for, layout_for, size_for, text_in_table}
@@ -70,7 +70,7 @@ put-requires-clause-row g c =
 
 -- the fields that are made are the schema's
 size_is : (fields lines : LinesOf) (column : ℕ) → fields ≡ lines → IsStillColumn (layout_for lines) column →
-    size_for fields column ≡ (bounds_at (layout_of lines.plan).delimiter (layout_of lines.plan).tables (layout_for lines) column).size
+    size_for fields column ≡ size_at (layout_of lines.plan).delimiter (layout_for lines).columns column
 size_is fields lines column same still = ap (λ (of : LinesOf). size_for of column) same ∙ size-still lines column still
 
 pub put-requires-clause-room : goal.put-requires-clause-room
@@ -84,12 +84,12 @@ put-requires-clause-room g c =
 ordinal_is : (start first ordinal : ℕ) → first ≡ start → start ≤ ordinal → start + (ordinal - first) ≡ ordinal
 ordinal_is start first ordinal same begun = omega (arith, same, begun)
 
-text_is : (fields lines : LinesOf) (first ordinal changed column : ℕ) → fields ≡ lines → IsTableInLimits (last_unit lines.plan) (layout_for lines) →
+text_is : (fields lines : LinesOf) (first ordinal changed column : ℕ) → fields ≡ lines → IsInLimits lines.plan → lines.table < length lines.plan.schema.tables → IsTableInLimits (last_unit lines.plan) (layout_for lines) →
     first ≡ first_ordinal (layout_for lines).births lines.born → first_ordinal (layout_for lines).births lines.born ≤ ordinal → IsStillColumn (layout_for lines) column →
     text_in_table fields (ordinal - first) changed column ≡ text_held lines.plan lines.table lines.unit ordinal column
-text_is fields lines first ordinal changed column same limits first_is begun still =
+text_is fields lines first ordinal changed column same sound table limits first_is begun still =
     ap (λ (of : LinesOf). text_in_table of (ordinal - first) changed column) same
-    ∙ text-still lines (ordinal - first) changed ordinal column limits (ordinal_is _ _ _ first_is begun) still
+    ∙ text-still lines (ordinal - first) changed ordinal column sound table limits (ordinal_is _ _ _ first_is begun) still
 
 pub returns-clause-text : goal.returns-clause-text
 returns-clause-text g c =
@@ -101,7 +101,7 @@ returns-clause-text g c =
     c.new-fields.ensures ∙ ap (λ (of : LinesOf). parents of table c.birth-born.result) c.self.view_is in
     c.put.ensures.text
     ∙ ap (λ (text : List ℕ). record { text = c.args.buf.now.text ++ text; room = c.args.buf.now.room })
-    (text_is c.new-fields.result (parents lines table c.birth-born.result) c.cohort.result.first c.args.parent c.new-values.result.changed c.args.lookup.now.column same
+    (text_is c.new-fields.result (parents lines table c.birth-born.result) c.cohort.result.first c.args.parent c.new-values.result.changed c.args.lookup.now.column same known.sound c.requires.table
     (subst (λ (plan : Project). IsTableInLimits (last_unit plan) (table_of plan table)) (c.plan-plan.ensures ∙ ap (λ (of : LinesOf). of.plan) c.self.view_is) c.table-limits.ensures.limits)
     (c.cohort.ensures.first ∙ ap (λ (plan : Project). first_ordinal (table_of plan table).births c.birth-born.result) (c.plan-plan.ensures ∙ ap (λ (of : LinesOf). of.plan) c.self.view_is)) here.begun c.requires.column)
 
@@ -118,7 +118,7 @@ returns-clause-size g c =
       c.put.ensures.size,
       size_is c.new-fields.result _ c.args.lookup.now.column same c.requires.column,
       ap (λ (text : List ℕ). length text)
-          (text_is c.new-fields.result (parents lines table c.birth-born.result) c.cohort.result.first c.args.parent c.new-values.result.changed c.args.lookup.now.column same
+          (text_is c.new-fields.result (parents lines table c.birth-born.result) c.cohort.result.first c.args.parent c.new-values.result.changed c.args.lookup.now.column same known.sound c.requires.table
           (subst (λ (plan : Project). IsTableInLimits (last_unit plan) (table_of plan table)) (c.plan-plan.ensures ∙ ap (λ (of : LinesOf). of.plan) c.self.view_is) c.table-limits.ensures.limits)
           (c.cohort.ensures.first ∙ ap (λ (plan : Project). first_ordinal (table_of plan table).births c.birth-born.result) (c.plan-plan.ensures ∙ ap (λ (of : LinesOf). of.plan) c.self.view_is)) here.begun c.requires.column),
     )
@@ -133,6 +133,6 @@ returns-clause-steps g c =
       arith,
       c.put.ensures.steps,
       ap (λ (of : LinesOf). asked_for false of c.args.lookup.now.column) same,
-      asked-still (parents lines table c.birth-born.result) c.args.lookup.now.column
+      asked-still (parents lines table c.birth-born.result) c.args.lookup.now.column c.requires.table
           (subst (λ (plan : Project). IsTableInLimits (last_unit plan) (table_of plan table)) (c.plan-plan.ensures ∙ ap (λ (of : LinesOf). of.plan) c.self.view_is) c.table-limits.ensures.limits) c.requires.column,
     )

@@ -12,7 +12,7 @@ use Rattle.life_intervals.specs.Generator.{generator_of, last_unit, table_of}
 use Rattle.life_intervals.specs.Intervals.{row_at}
 use Rattle.cohort_sizes.proofs.CohortLemmas.{born_count-le}
 use Rattle.row_lines.specs.CohortLines.{LinesOf, change_for, is_live_for, layout_for, ordinal_of, parent_for, text_in_cohort, values_at}
-use Rattle.row_lines.specs.Lines.{draws_of}
+use Rattle.row_lines.specs.RowViews.{draws_of}
 use Rattle.row_lines.specs.Lookups.{IsLookupOf, text_held}
 use Rattle.row_lines.proofs.CohortLineLemmas.{AreLinesOf-view}
 use Rattle.row_lines.proofs.LookupLemmas.{asked-lookup, looks_up_still, null-field, room-lookup, size-lookup, text-lookup, text-null}

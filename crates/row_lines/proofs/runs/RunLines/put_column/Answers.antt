@@ -10,6 +10,7 @@ use Rattle.row_lines.specs.RunFields.{asked_for, asked_short}
 use Rattle.row_lines.specs.Runs.{RunLinesOf, layout_for}
 use Rattle.row_lines.specs.TableLines.{TableLinesOf, column_of, is_short_at, is_short_kind, table_lines}
 use Rattle.row_lines.proofs.CohortFieldLemmas.{ready_at}
+use Rattle.row_lines.proofs.DerivedLemmas.{dated_from_ready}
 use Rattle.row_lines.proofs.ReferenceFieldLemmas.{asked_by-reference}
 use Rattle.row_lines.proofs.RunFieldLemmas.{lines_of}
 use Rattle.row_lines.proofs.RunPieceLemmas.{AreRunLines-view, length-short, short-at, short-drawn}
@@ -80,7 +81,7 @@ put_drawn-requires g c =
     record {
       column = c.requires.column;
       short = short-drawn lines.plan lines.table (column_of lines.plan lines.table c.args.column) (ready_kind (layout_of lines.plan).delimiter (column_at (layout_for lines).columns c.args.column).kind)
-          (sym (short_is g here) ∙ c.if-not-short-column.false) (λ key. c.in_default.not-Key (back ∙ key)) (λ reference held. c.in_default.not-Reference reference (back ∙ held)) (λ lookup held. c.in_default.not-Lookup lookup (back ∙ held));
+          (sym (short_is g here) ∙ c.if-not-short-column.false) (λ key. c.in_default.not-Key (back ∙ key)) (λ reference held. c.in_default.not-Reference reference (back ∙ held)) (λ lookup held. c.in_default.not-Lookup lookup (back ∙ held)) (λ after held. c.in_default.not-After after (back ∙ held));
       rows = c.requires.rows;
       pieces = c.requires.pieces;
     }
@@ -95,8 +96,25 @@ returns-in-Reference-clause-steps g c =
     ∙ (ap (λ (column : ReadyColumn). column.kind) c.index-columns-column.is ∙ c.in-Reference.is) in
     let asked : asked_short lines c.args.column ≡ held_cost (layout_of lines.plan).tables (reference_by c.args.column c.in-Reference.reference) + one_if (table_of lines.plan c.in-Reference.reference.parent).key.scramble =
     ap (λ (test : Bool). if test then asked_for lines c.args.column else 0) (sym (short_is g here) ∙ c.if-not-short-column.false)
-    ∙ asked_by-reference true (lines_of lines) c.args.column c.in-Reference.reference (record { within = c.requires.column; is = is }) in
+    ∙ asked_by-reference true (lines_of lines) c.args.column c.in-Reference.reference (AreRunLines-view _ lines c.self.inside.lines.now c.self.view_is c.self.invariant).table (AreRunLines-view _ lines c.self.inside.lines.now c.self.view_is c.self.invariant).limits (record { within = c.requires.column; is = is }) in
     subst (λ (n : ℕ). c.put_references.new.steps ≤ c.args.steps.now + length c.args.rows.ordinals.now * n) (sym asked) c.put_references.ensures.steps
+
+pub put_dates-requires-clause-dated : goal.put_dates-requires-clause-dated
+put_dates-requires-clause-dated g c =
+    let lines : RunLinesOf = c.args.self.now in
+    let are = c.columns-columns.ensures.columns ∙ ap (λ (plan : Project). ready_columns (layout_of plan) c.self.inside.table) c.plan-plan.ensures
+    ∙ ap (λ (of : RunLinesOf). ready_columns (layout_of of.plan) of.table) c.self.view_is in
+    let is = kind_of lines c.columns-columns.result.now c.args.column c.index-columns-column.result are c.requires.column c.index-columns-column.is
+    ∙ (ap (λ (column : ReadyColumn). column.kind) c.index-columns-column.is ∙ c.in-After.is) in
+    dated_from_ready (layout_of lines.plan).delimiter (column_at (layout_for lines).columns c.args.column).kind c.in-After.field-0 is
+
+pub returns-in-After-clause-steps : goal.returns-in-After-clause-steps
+returns-in-After-clause-steps g c =
+    let lines : RunLinesOf = c.args.self.now in
+    let here = (goal.at.returns-in-After-clause-steps g c).After-short-short in
+    let asked : asked_short lines c.args.column ≡ asked_for lines c.args.column =
+    ap (λ (test : Bool). if test then asked_for lines c.args.column else 0) (sym (short_is g here) ∙ c.if-not-short-column.false) in
+    subst (λ (n : ℕ). c.put_dates.new.steps ≤ c.args.steps.now + length c.args.rows.ordinals.now * n) (sym asked) c.put_dates.ensures.steps
 
 pub returns-in-Lookup-clause-steps : goal.returns-in-Lookup-clause-steps
 returns-in-Lookup-clause-steps g c =

@@ -4,7 +4,8 @@ use Rattle.std.proofs.lemmas.Bool.{cases_lt}
 use Rattle.life_intervals.proofs.Ranges.{flat_map-range_with_len_more}
 use Rattle.row_lines.specs.RunFields.{asked_long, size_for}
 use Rattle.row_lines.specs.Runs.{RunLinesOf, layout_for, text_at, text_behind}
-use Rattle.row_lines.proofs.RunFieldLemmas.{mixed-line, mixed-room, mixed-size, sum_by-range_more}
+use Rattle.row_lines.proofs.CohortLineLemmas.{sum_by-range_more}
+use Rattle.row_lines.proofs.RunFieldLemmas.{mixed-line, mixed-room, mixed-size}
 use Rattle.row_lines.proofs.RunTextLemmas.{appended-more}
 use Rattle.row_lines.proofs.runs.RunLines.put_mixed_line.Goals as goal
 

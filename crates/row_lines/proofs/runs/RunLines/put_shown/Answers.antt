@@ -29,7 +29,7 @@ is_held c i below =
     let lines : RunLinesOf = c.args.self.now in
     let run : RunColumnOf = c.args.shown.now in
     let known = AreRunLines-view _ lines c.self.inside.lines.now c.self.view_is c.self.invariant in
-    text_held-own lines.plan run.table lines.unit (get_or c.args.ordinals.now i 0) run.column (get_or c.args.births.now i 0)
+    text_held-own lines.plan run.table lines.unit (get_or c.args.ordinals.now i 0) run.column (get_or c.args.births.now i 0) known.sound c.requires.table
     (known.sound.tables run.table no_table (place-below lines.plan run.table c.requires.table)) c.requires.still
     (sym (ap (λ (of : RunColumnOf). of.short) c.requires.shown) ∙ c.requires.short)
     (run-birth lines.plan run.table lines.unit c.args.ordinals.now c.args.births.now c.requires.rows i below)

@@ -3,7 +3,7 @@ use Rattle.std.proofs.lemmas.Int.{ints, to_z-of_z}
 use mir.Val.{SFits, of_z, to_z}
 use Rattle.schema_model.specs.declared.table.Table.{Table}
 use Rattle.schema_plan.specs.Dictionaries.{project_of}
-use Rattle.schema_plan.specs.FieldBounds.{greatest_by}
+use Rattle.schema_plan.specs.FieldSizes.{greatest_by}
 use Rattle.schema_plan.specs.Counts.{count}
 use Rattle.schema_plan.specs.Layout.{births_of}
 use Rattle.schema_plan.specs.Limits.{AreBirthsInLimits}
