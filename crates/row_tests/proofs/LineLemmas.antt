@@ -2,7 +2,7 @@
 use Rattle.std.proofs.Common.{◌≡◌, ◌<◌, ◌≤◌, ℕ, ◌+◌, List, map, length, sum_by, arith}
 use Rattle.std.proofs.lemmas.List.Folds.{fold-map}
 use Rattle.std.proofs.lemmas.List.Sums.{get_or-le-sum_by}
-use Rattle.schema_plan.specs.FieldBounds.{bounds_of}
+use Rattle.schema_plan.specs.FieldSizes.{size_of}
 use Rattle.schema_plan.specs.Layout.{ColumnLayout, Layout, no_column, table_at}
 use Rattle.schema_plan.specs.TableFacts.{max_line}
 use Rattle.draw_values.specs.Values.{size_at}
@@ -14,9 +14,9 @@ pub size_at-within : (layout : Layout) (table place : ℕ) → place < length (t
 unfolding max_line
 size_at-within layout table place within =
     let columns : List ColumnLayout = (table_at layout.tables table).columns in
-    let taken : ColumnLayout → ℕ = λ (column : ColumnLayout). (bounds_of layout.delimiter layout.tables (table_at layout.tables table) column.kind).size + 1 in
+    let taken : ColumnLayout → ℕ = λ (column : ColumnLayout). size_of layout.delimiter layout.tables columns column.kind + 1 in
     omega (
       arith,
-      sum_by-map (λ (column : ColumnLayout). bounds_of layout.delimiter layout.tables (table_at layout.tables table) column.kind) (λ field. field.size + 1) columns,
+      sum_by-map (λ (column : ColumnLayout). size_of layout.delimiter layout.tables columns column.kind) (λ size. size + 1) columns,
       get_or-le-sum_by taken columns place no_column within,
     )

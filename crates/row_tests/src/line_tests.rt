@@ -225,6 +225,16 @@ rows = 1
 insert = 1
 "#;
 
+/// The same schema with the seed 1.
+const ONE_OF_SEED_1: &str = r#"
+seed = 1
+units = 2
+[[table]]
+name = "t"
+rows = 1
+insert = 1
+"#;
+
 /// A table with as many rows as can be, all at unit 0.
 const LARGE: &str = r#"
 seed = 7
@@ -328,6 +338,55 @@ const DRAWN_AND_SHOWN: &str = r#", deal = "drawn" },
 ]
 "#;
 
+/// A day, and one that comes 1 to 30 days after it.
+const DUES: &str = r#"
+column = [
+    { name = "id", kind = "key", base = 1 },
+    { name = "born", kind = "born" },
+    { name = "d", kind = "date", lo = "2024-02-28", hi = "2024-02-28" },
+    { name = "due", kind = "after", of = "d", lo = 1, hi = 30 },
+]
+"#;
+
+/// A day, one that comes two days after it, and one two days before that.
+const THERE_AND_BACK: &str = r#"
+column = [
+    { name = "id", kind = "key", base = 1 },
+    { name = "born", kind = "born" },
+    { name = "d", kind = "date", lo = "2024-02-28", hi = "2024-02-28" },
+    { name = "due", kind = "after", of = "d", lo = 2, hi = 2 },
+    { name = "again", kind = "after", of = "due", lo = -2, hi = -2 },
+]
+"#;
+
+/// 12.34, 3, -0.05 and 0.050, and products and sums of these.
+const TOTALS: &str = r#"
+column = [
+    { name = "id", kind = "key", base = 1 },
+    { name = "born", kind = "born" },
+    { name = "p", kind = "fixed", lo = 1234, hi = 1234, decimals = 2 },
+    { name = "n", kind = "int", lo = 3, hi = 3 },
+    { name = "m", kind = "fixed", lo = -5, hi = -5, decimals = 2 },
+    { name = "s", kind = "fixed", lo = 50, hi = 50, decimals = 3 },
+    { name = "a", kind = "product", of = ["p", "n"] },
+    { name = "b", kind = "sum", of = ["p", "n"] },
+    { name = "c", kind = "product", of = ["m", "n"] },
+    { name = "d", kind = "sum", of = ["m", "s"] },
+    { name = "e", kind = "sum", of = ["a", "b", "c", "d"] },
+]
+"#;
+
+/// A number that a double doesn't hold, and its sum with 0.
+const PAST_A_DOUBLE: &str = r#"
+column = [
+    { name = "id", kind = "key", base = 1 },
+    { name = "born", kind = "born" },
+    { name = "x", kind = "int", lo = 9007199254740993, hi = 9007199254740993 },
+    { name = "y", kind = "int", lo = 0, hi = 0 },
+    { name = "z", kind = "sum", of = ["x", "y"] },
+]
+"#;
+
 /// 1,000 rows at unit 0, and 10 at each later unit.
 const THOUSAND: &str = r#"
 seed = 7
@@ -368,6 +427,42 @@ const ONE_ROWS: &[(u32, u64, Told<'static>)] = &[
     (0, 1, Told::KeyLine("2\n")),
     (0, 2, Told::KeyLine("3\n")),
 ];
+
+const TOTAL_LINE: &str = "1\t0\t12.34\t3\t-0.05\t0.050\t37.02\t15.34\t-0.15\t0.000\t52.210\n";
+
+// By hand, but for the three drawn days, which are those of the Python program.
+const DAYS_AND_TOTALS: &[(&[&str], &[(u32, u64, Told<'static>)])] = &[
+    (
+        &[ONE_OF_SEED_1, DUES],
+        &[
+            (0, 0, Told::Line(2, "1\t0\t2024-02-28\t2024-02-29\n")),
+            (0, 1, Told::Line(2, "2\t1\t2024-02-28\t2024-03-12\n")),
+            (0, 2, Told::Line(2, "3\t2\t2024-02-28\t2024-03-06\n")),
+        ],
+    ),
+    (
+        &[ONE, THERE_AND_BACK],
+        &[(
+            0,
+            0,
+            Told::Line(0, "1\t0\t2024-02-28\t2024-03-01\t2024-02-28\n"),
+        )],
+    ),
+    (&[ONE, TOTALS], &[(0, 0, Told::Line(0, TOTAL_LINE))]),
+    (
+        &[ONE, PAST_A_DOUBLE],
+        &[(
+            0,
+            0,
+            Told::Line(0, "1\t0\t9007199254740993\t0\t9007199254740993\n"),
+        )],
+    ),
+];
+
+#[test]
+fn dates_follow_dates_and_numbers_are_joined(rt: HostRuntime) {
+    assert_all::<Brand>(&rt, rt.alloc(), DAYS_AND_TOTALS, Blank::new(1));
+}
 
 // By hand: a cohort of one row has its key in place, and padded numbers. From the Python program: the last key of the large table, scrambled; a label, a label
 // that cites a null unit, and a null label; and the checksums of texts of 1,050 lines.

@@ -283,6 +283,36 @@ fn texts_stand_between_quotes(rt: HostRuntime) {
     assert!(rt; are_inserted(alloc, &plan, 0, 0, row));
 }
 
+/// A price, a number and their product, a pick, a case of a number, a day, and one two days after it.
+const BILL: &str = r#"
+seed = 7
+units = 2
+[[table]]
+name = "t"
+rows = 1
+insert = 1
+column = [
+    { name = "id", kind = "key", base = 1 },
+    { name = "born", kind = "born" },
+    { name = "p", kind = "fixed", lo = 1234, hi = 1234, decimals = 2 },
+    { name = "n", kind = "int", lo = 3, hi = 3 },
+    { name = "a", kind = "product", of = ["p", "n"] },
+    { name = "k", kind = "pick", entries = ["x"] },
+    { name = "c", kind = "case", on = "k", branches = [{ kind = "int", lo = 7, hi = 7 }] },
+    { name = "d", kind = "date", lo = "2024-02-28", hi = "2024-02-28" },
+    { name = "due", kind = "after", of = "d", lo = 2, hi = 2 },
+]
+"#;
+
+#[test]
+fn totals_stand_bare_and_dates_between_quotes(rt: HostRuntime) {
+    let alloc = rt.alloc();
+    let plan = plan_of(&rt, alloc, BILL);
+    let row =
+        "INSERT INTO \"t\" VALUES (1, 0, 12.34, 3, 37.02, 'x', 7, '2024-02-28', '2024-03-01');\n";
+    assert!(rt; are_inserted(alloc, &plan, 0, 0, row));
+}
+
 #[test]
 fn keys_alone_are_not_updated(rt: HostRuntime) {
     let alloc = rt.alloc();

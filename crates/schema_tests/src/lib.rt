@@ -6,6 +6,8 @@ mod cases;
 #[cfg(test)]
 mod column_rules;
 #[cfg(test)]
+mod columns_of_others;
+#[cfg(test)]
 mod model;
 #[cfg(test)]
 mod plans;

@@ -101,37 +101,47 @@ table=[
     ]},
 ]"#;
 
-const CITY: TableFacts = TableFacts {
-    keys: Keys {
+/// The keys of a table, its lineage, the cost of a row, and the greatest length of a line.
+type Facts = (Keys, Lineage, u64, u64);
+
+const CITY: Facts = (
+    Keys {
         base: 5,
         scramble: true,
     },
-    lineage: Lineage {
+    Lineage {
         sure_life: Some(3),
         longest_life: Some(5),
         death_cost: 1,
         loss_cost: 0,
         null_cost: 0,
     },
-    cost: 3,
-    max_line: 28,
-};
+    3,
+    28,
+);
 
-const ALL: TableFacts = TableFacts {
-    keys: Keys {
+const ALL: Facts = (
+    Keys {
         base: 5,
         scramble: false,
     },
-    lineage: Lineage {
+    Lineage {
         sure_life: Some(1),
         longest_life: Some(5),
         death_cost: 2,
         loss_cost: 0,
         null_cost: 0,
     },
-    cost: 11,
-    max_line: 264,
-};
+    11,
+    264,
+);
+
+/// The costs of the columns of `all` from the case on.
+const LAST_COSTS: [u64; 4] = [0, 2, 1, 4];
+
+fn assert_facts(rt: &impl Abort, facts: &TableFacts, known: Facts) {
+    assert!(rt; (facts.keys, facts.lineage, facts.cost, facts.max_line) == known);
+}
 
 // A city's line has 20 + 6 bytes. A city costs a permutation each for its row, its key and its life. The fields of `all` have 20, 5, 5,
 // 20, 21, 10, 6, 20, 2, 8, 6, 36, 20, 20, 6 and 43 bytes. The reference asks 2 permutations, the template that cites it twice 4, and the lookup 1.
@@ -141,7 +151,12 @@ fn facts_of_each_kind(rt: HostRuntime) {
     assert!(rt; schema.tables.len() == 2);
     let mut facts = [NO_FACTS; 2];
     fill_facts(&schema, &Dictionaries::new(rt.alloc()), &mut facts);
-    assert!(rt; facts[0] == CITY && facts[1] == ALL);
+    assert_facts(&rt, &facts[0], CITY);
+    assert_facts(&rt, &facts[1], ALL);
+    assert!(rt; facts[0].column(0).cost == 1);
+    for (place, cost) in LAST_COSTS.iter().enumerate() {
+        assert!(rt; facts[1].column(12 + place).cost == *cost);
+    }
 }
 
 /// Customers who live three units, and orders whose customers are drawn. Lines with an order and a customer, both drawn: a line goes with

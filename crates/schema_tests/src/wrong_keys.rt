@@ -33,7 +33,7 @@ const TABLE_FAULTS: [&str; 10] = [
 ];
 
 // The keys of the first column of the first table, with one wrong key.
-const COLUMN_FAULTS: [&str; 92] = [
+const COLUMN_FAULTS: [&str; 105] = [
     "Name TextValue: name=1,kind='born',changes=true,null=1",
     "Name TextValue: kind='born',changes=true,null=1",
     "Kind KindName: name='c',kind='nope',changes=true,null=1",
@@ -56,6 +56,19 @@ const COLUMN_FAULTS: [&str; 92] = [
     "Start DateText: name='c',kind='changed_date',start=1",
     "Step Whole: name='c',kind='changed_date',start='2024-02-29',step='1'",
     "Other NoSuchKey: name='c',kind='changed_date',start='2024-02-29',lo=1",
+    "Of TextValue: name='c',kind='after',of=['d'],lo=1,hi=1",
+    "Of TextValue: name='c',kind='after',lo=1,hi=1",
+    "Lo Whole: name='c',kind='after',of='d',lo='2024-02-28',hi=1",
+    "Lo Whole: name='c',kind='after',of='d',hi=1",
+    "Hi Whole: name='c',kind='after',of='d',lo=1,hi=1.0",
+    "Hi Whole: name='c',kind='after',of='d',lo=1",
+    "Other NoSuchKey: name='c',kind='after',of='d',lo=1,hi=1,step=1",
+    "Of TextList: name='c',kind='sum',of='d'",
+    "Of TextList: name='c',kind='sum',of=['d',1]",
+    "Of TextList: name='c',kind='sum'",
+    "Other NoSuchKey: name='c',kind='sum',of=['d'],decimals=1",
+    "Of TextList: name='c',kind='product',of=1",
+    "Other NoSuchKey: name='c',kind='product',of=['d'],lo=1",
     "Lo Whole: name='c',kind='int',lo=1.0,hi=1,step=1",
     "Lo Whole: name='c',kind='int',hi=1,step=1",
     "Hi Whole: name='c',kind='int',lo=1,hi=1.0,step=1",
