@@ -15,9 +15,15 @@ class Type:
     """What fields hold: `form` is `whole`, `fixed`, `date`, `uuid` or `text`."""
 
     form: str
-    digits: int  # of the greatest number of the forms `whole` and `fixed`
-    decimals: int  # of those, how many stand after the point
+    low: int  # of the forms `whole` and `fixed` the least number, without its point
+    high: int  # and the greatest one
+    decimals: int  # of those, how many digits stand after the point
     size: int  # the most bytes of a field, in UTF-8 and without escapes
+
+    @property
+    def digits(self):
+        """How many digits a number has at most, of those forms."""
+        return max(len(str(abs(self.low))), len(str(abs(self.high))), self.decimals + 1)
 
 
 @dataclasses.dataclass(frozen=True)
@@ -159,6 +165,13 @@ def read_column(column, table, before, earlier):
             shown = next(it for it in earlier if it.name == via["table"]).column(column["column"])
             type_ = shown.type
             may_be_null = may_be_null or shown.may_be_null
+        case "after":
+            type_ = named[column["of"]].type
+            may_be_null = may_be_null or named[column["of"]].may_be_null
+        case "sum" | "product":
+            operands = [named[it] for it in column["of"]]
+            type_ = (sum_of if column["kind"] == "sum" else product_of)([it.type for it in operands])
+            may_be_null = may_be_null or any(it.may_be_null for it in operands)
         case "ref":
             type_ = whole_of(0, 2**63)
             may_be_null = may_be_null or column.get("on_delete") == "null"
@@ -181,10 +194,9 @@ def type_of(leaf):
         case "skew":
             return whole_of(leaf["lo"], leaf["lo"] + leaf["size"] - 1)
         case "fixed":
-            digits = max(digits_of(leaf["lo"], leaf["hi"]), leaf["decimals"] + 1)
-            return Type("fixed", digits, leaf["decimals"], 21)
+            return fixed_of(leaf["lo"], leaf["hi"], leaf["decimals"])
         case "date" | "born_date" | "changed_date":
-            return Type("date", 0, 0, 10)
+            return Type("date", 0, 0, 0, 10)
         case "pick":
             return text_of(max(len(it.encode()) for it in leaf["entries"]))
         case "chars":
@@ -194,21 +206,41 @@ def type_of(leaf):
         case "words":
             return text_of(leaf["hi"] * 256)
         case "uuid":
-            return Type("uuid", 0, 0, 36)
+            return Type("uuid", 0, 0, 0, 36)
         case kind:
             raise ValueError(f"kind {kind}")
 
 
 def whole_of(low, high):
-    return Type("whole", digits_of(low, high), 0, 20)
+    return Type("whole", low, high, 0, 20)
+
+
+def fixed_of(low, high, decimals):
+    return Type("fixed", low, high, decimals, 21)
 
 
 def text_of(size):
-    return Type("text", 0, 0, max(size, 1))
+    return Type("text", 0, 0, 0, max(size, 1))
 
 
-def digits_of(low, high):
-    return max(len(str(abs(low))), len(str(abs(high))))
+def sum_of(types):
+    decimals = max(it.decimals for it in types)
+    ends = [scaled_ends(it, decimals) for it in types]
+    return fixed_of(sum(low for low, _ in ends), sum(high for _, high in ends), decimals)
+
+
+def product_of(types):
+    low = high = 1
+    for it in types:
+        ends = [left * right for left in (low, high) for right in (it.low, it.high)]
+        low, high = min(ends), max(ends)
+    return fixed_of(low, high, sum(it.decimals for it in types))
+
+
+def scaled_ends(type_, decimals):
+    """The least and the greatest number of a type, with so many digits after the point."""
+    factor = 10 ** (decimals - type_.decimals)
+    return type_.low * factor, type_.high * factor
 
 
 def common_type(left, right):
@@ -218,6 +250,6 @@ def common_type(left, right):
         return left
     if {left.form, right.form} <= {"whole", "fixed"}:
         decimals = max(left.decimals, right.decimals)
-        digits = max(left.digits - left.decimals, right.digits - right.decimals) + decimals
-        return Type("fixed" if "fixed" in (left.form, right.form) else "whole", digits, decimals, size)
+        lows, highs = zip(scaled_ends(left, decimals), scaled_ends(right, decimals))
+        return Type("fixed" if "fixed" in (left.form, right.form) else "whole", min(lows), max(highs), decimals, size)
     return text_of(size)
