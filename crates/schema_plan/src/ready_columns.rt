@@ -121,30 +121,17 @@ fn ready_kind(
             deal,
         } => {
             let parent = place_of_table(tables, table) as u32;
-            let reference = ready_reference(
-                alloc,
-                parent,
-                *window,
-                spread.as_slice(),
-                *on_delete,
-                *deal,
-            )?;
+            let spread = spread.as_slice();
+            let reference = ready_reference(alloc, parent, *window, spread, *on_delete, *deal)?;
             Ok(ReadyKind::Reference(reference))
         }
         Kind::Lookup { via, column } => {
             Ok(ReadyKind::Lookup(ready_lookup(tables, columns, via, column)))
         }
         Kind::List { file } => Ok(ReadyKind::List(ready_list(lexicon.words(file)?))),
-        Kind::BornDate { start, step } => {
-            Ok(ReadyKind::UnitDate(ready_unit_date(false, *start, *step)))
-        }
-        Kind::ChangedDate { start, step } => {
-            Ok(ReadyKind::UnitDate(ready_unit_date(true, *start, *step)))
-        }
-        Kind::After { of, lo, hi } => {
-            let of = place_of_column(columns, of) as u64;
-            Ok(ReadyKind::After(ready_after(of, *lo, *hi)))
-        }
+        Kind::BornDate { start, step } => Ok(dates_of_units(false, *start, *step)),
+        Kind::ChangedDate { start, step } => Ok(dates_of_units(true, *start, *step)),
+        Kind::After { of, lo, hi } => Ok(dates_after(columns, of, *lo, *hi)),
         Kind::Sum { of } => Ok(ReadyKind::Sum {
             of: places_of(alloc, columns, of.as_slice())?,
         }),
@@ -154,17 +141,17 @@ fn ready_kind(
     }
 }
 
-/// Makes ready the dates from `lo` to `hi` days after those of the column at a place.
-fn ready_after(of: u64, lo: i64, hi: i64) -> ReadyAfter
+/// Makes ready the dates from `lo` to `hi` days after those of the named column.
+fn dates_after(columns: &[Column], of: &Text, lo: i64, hi: i64) -> ReadyKind
     requires { IsAfterRange lo hi }
-    ensures { result ≡ record { of = of; lo = lo; hi = hi; choices = choices lo hi 1 } }
+    ensures { result ≡ ReadyKind.After (record { of = place_of_column columns.now of.now; lo = lo; hi = hi; choices = choices lo hi 1 }) }
 {
-    ReadyAfter {
-        of,
+    ReadyKind::After(ReadyAfter {
+        of: place_of_column(columns, of) as u64,
         lo,
         hi,
         choices: choices(lo, hi, 1),
-    }
+    })
 }
 
 /// Returns the places of some named columns, in order.
@@ -179,14 +166,14 @@ fn places_of(alloc: Global, columns: &[Column], names: &[Text]) -> Result<Sequen
 }
 
 /// Makes ready the dates of the units.
-fn ready_unit_date(changed: bool, start: i32, step: i64) -> ReadyUnitDate
-    ensures { result ≡ record { changed = changed; start = start; step = count step } }
+fn dates_of_units(changed: bool, start: i32, step: i64) -> ReadyKind
+    ensures { result ≡ ReadyKind.UnitDate (record { changed = changed; start = start; step = count step }) }
 {
-    ReadyUnitDate {
+    ReadyKind::UnitDate(ReadyUnitDate {
         changed,
         start,
         step: count(step),
-    }
+    })
 }
 
 /// Makes ready the words of a list.
