@@ -19,3 +19,4 @@ pub mod ItemFieldLemmas
 pub mod ShortNumberLemmas
 pub mod GroupLemmas
 pub mod OwnEndLemmas
+pub mod RunNumberLemmas

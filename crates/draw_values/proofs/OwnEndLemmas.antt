@@ -1,5 +1,5 @@
 -- Days and numbers that are drawn lie between the ends that the facts of their columns tell.
-use Rattle.std.proofs.Common.{◌≡◌, ◌<◌, ◌≤◌, ◌≤ℤ◌, ◌+ℤ◌, ◌-ℤ◌, ◌<ℤ◌, ℕ, ℤ, pos, negsuc, neg_ℤ, T, ◌+◌, ◌*◌, ◌/◌, ◌-◌, ◌%◌, ◌^◌, Bool, true, false, cond, List, [], ◌∷◌, All, length, int_le, Option, Some, None, refl, sym, ap, subst, ◌∙◌, arith}
+use Rattle.std.proofs.Common.{◌≡◌, ◌<◌, ◌≤◌, ◌≤ℤ◌, ◌+ℤ◌, ◌-ℤ◌, ℕ, ℤ, pos, negsuc, neg_ℤ, T, ◌+◌, ◌*◌, ◌/◌, ◌-◌, ◌%◌, ◌^◌, Bool, true, false, cond, List, [], ◌∷◌, All, length, int_le, Option, Some, None, refl, sym, ap, subst, ◌∙◌, arith}
 use Rattle.std.specs.Prelude.{IfSome, sum}
 use Rattle.std.proofs.lemmas.Int.{ints}
 use Rattle.std.proofs.lemmas.List.{length-map}
@@ -21,10 +21,9 @@ use Rattle.schema_plan.specs.Limits.{IsDateRange, IsKindInLimits, IsLeafInLimits
 use Rattle.schema_plan.specs.Numbers.{drawn_numbers, numbers_of_leaf}
 use Rattle.schema_plan.proofs.FieldFactsLemmas.{IsColumnOf, field_facts-kind}
 use Rattle.draw_values.proofs.GroupLemmas.{group_within}
-use Rattle.draw_values.specs.declared.leaf_numbers.Number.{Number}
 use Rattle.draw_values.specs.declared.values.RowAt.{RowAt}
 use Rattle.draw_values.specs.CohortValues.{IsDayOf, IsNumberOf, ValuesOf}
-use Rattle.draw_values.specs.Values.{Draws, chosen, chosen_group, leaf_day, leaf_number, own_day, own_number, unit_day}
+use Rattle.draw_values.specs.Values.{Draws, chosen, chosen_group, leaf_day, leaf_number, own_day, own_number}
 
 -- a number that a draw chooses
 pub chosen-between : (lo hi : ℤ) (step draw : ℕ) → lo ≤ℤ hi → IsBetween lo hi (chosen lo hi step draw)

@@ -11,11 +11,12 @@ use Rattle.schema_plan.specs.declared.ready.ReadyLeaf.TheVariants as leaf
 use Rattle.schema_plan.specs.Dictionaries.{Project}
 use Rattle.schema_plan.specs.Layout.{column_at, layout_of, table_at}
 use Rattle.schema_plan.specs.Ready.{ready_column}
+use Rattle.draw_values.specs.declared.leaf_numbers.Number.{Number}
 use Rattle.draw_values.specs.declared.runs.RunRows.{RunRows}
 use Rattle.draw_values.specs.declared.values.RowAt.{RowAt}
 use Rattle.draw_values.specs.Dates.{date_text}
 use Rattle.draw_values.specs.ReadyValues.{HasDay, IsReady, IsReadyList, ready_day, ready_entry_in_turn, ready_text}
-use Rattle.draw_values.specs.Values.{draws_at, is_null, value_at}
+use Rattle.draw_values.specs.Values.{draws_at, is_null, own_day, own_number, value_at}
 
 -- the row at a place of a run
 abbrev pub run_row : RunRows → ℕ → RowAt
@@ -192,6 +193,18 @@ abbrev pub is_null_in : Project → RunColumnOf → RowAt → Bool
 is_null_in plan run at =
     is_null (column_at (table_at (layout_of plan).tables run.table).columns run.column).null
     (draws_at (layout_of plan) run.table at run.column)
+
+-- the day that a row shows in the column by its units or its own draws, where its field isn't null
+abbrev pub day_in : Project → RunColumnOf → RowAt → Option ℤ
+day_in plan run at =
+    own_day at (draws_at (layout_of plan) run.table at run.column)
+    (column_at (table_at (layout_of plan).tables run.table).columns run.column).kind
+
+-- the number that it draws there, where its field isn't null
+abbrev pub number_in : Project → RunColumnOf → RowAt → Option Number
+number_in plan run at =
+    own_number (draws_at (layout_of plan) run.table at run.column)
+    (column_at (table_at (layout_of plan).tables run.table).columns run.column).kind
 
 -- a null field with the byte behind it
 abbrev pub null_text : RunColumnOf → List ℕ

@@ -5,7 +5,7 @@
 //! A table is named by its place in the schema, a column by its place in the table. A row is named by its ordinal, its place in the
 //! order of birth in its table. All count from 0. A value is appended to a page as it is written (PostgreSQL's manual, "COPY", text
 //! format). A run is up to 256 rows of a table. A column makes the fields of a run at once, as pieces, each with the byte after the
-//! field. Only `ColumnSeeds::new` and `RunColumn::new` take memory.
+//! field. It also gives the days and the numbers of a run. Only `ColumnSeeds::new` and `RunColumn::new` take memory.
 #![tactic(auto)]
 
 mod characters;
@@ -25,6 +25,7 @@ mod run_cases;
 mod run_column;
 mod run_items;
 mod run_loops;
+mod run_numbers;
 mod run_pieces;
 mod runs;
 mod unit_dates;
@@ -40,5 +41,6 @@ pub use fixed::put_number;
 pub use items::ItemizedField;
 pub use leaf_numbers::{Number, leaf_day, leaf_number};
 pub use run_column::RunColumn;
+pub use run_numbers::{fill_dates_of, fill_numbers};
 pub use runs::{RUN_LIMIT, RunNumbers, RunRows};
 pub use values::{Put, RowAt, put_value};

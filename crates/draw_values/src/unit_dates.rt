@@ -28,7 +28,7 @@ pub(crate) fn day_of_row(date: &ReadyUnitDate, at: RowAt) -> i64
 
 /// Returns the day of a unit. The day of unit 0 is `start`, and each unit is `step` days after the one before.
 #[inline(always)]
-fn day_of_unit(start: i32, step: u64, unit: u64) -> i64
+pub(crate) fn day_of_unit(start: i32, step: u64, unit: u64) -> i64
     requires { IsDateRange start (start +ℤ pos (step * unit)) }
     ensures { result ≡ start +ℤ pos (step * unit) }
 {
