@@ -24,7 +24,9 @@ pub mod RunTextLemmas
 pub mod RunFieldLemmas
 mod RunPieceLemmas
 mod RunLookupLemmas
+mod RunValueLemmas
 mod RunParentLemmas
 mod RunKeyLemmas
 mod RowOfRunLemmas
 mod ItemizedLemmas
+mod RunTotalLemmas

@@ -147,7 +147,7 @@ pub looked_up-put : (null : Bool) (text null_piece piece held : List ℕ) (byte 
 looked_up-put true text null_piece piece held byte is null_is piece_is = is ∙ null_is
 looked_up-put false text null_piece piece held byte is null_is piece_is = is ∙ piece_is
 
-looked_up-length : (null : Bool) (held : List ℕ) (most : ℕ) → 2 ≤ most → length held ≤ most → length (if null then codes "\\N" else held) ≤ most
+pub looked_up-length : (null : Bool) (held : List ℕ) (most : ℕ) → 2 ≤ most → length held ≤ most → length (if null then codes "\\N" else held) ≤ most
 looked_up-length true held most room within = omega (arith, room)
 looked_up-length false held most room within = within
 

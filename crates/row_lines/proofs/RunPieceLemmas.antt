@@ -8,13 +8,12 @@ use Rattle.line_pages.specs.Pieces.{piece_text}
 use Rattle.line_pages.specs.Rows.{piece_text_at, row_of_pieces, rows_of_pieces}
 use Rattle.row_text.specs.Fields.{field_text}
 use Rattle.cohort_sizes.proofs.CohortLemmas.{born_count-le}
-use Rattle.schema_plan.specs.declared.ready.ReadyAfter.{ReadyAfter}
-use Rattle.schema_plan.specs.declared.ready.ReadyKind.{ReadyKind}
 use Rattle.schema_plan.specs.declared.ready.ReadyKind.TheVariants as kind
 use Rattle.schema_plan.specs.declared.ready.ReadyLookup.{ReadyLookup}
 use Rattle.schema_plan.specs.declared.ready.ReadyReference.{ReadyReference}
 use Rattle.schema_plan.specs.Dictionaries.{Project}
-use Rattle.schema_plan.specs.Layout.{column_at, key_kind, layout_of}
+use Rattle.schema_plan.specs.Layout.{KindLayout, after_kind, born_kind, case_kind, changed_kind, column_at, key_kind, layout_of, leaf_kind, list_kind, lookup_kind, product_kind, reference_kind, sum_kind, template_kind, unit_date_kind}
+use Rattle.schema_plan.specs.Ready.{ready_kind}
 use Rattle.schema_plan.specs.Limits.{IsInLimits, IsTableInLimits}
 use Rattle.schema_plan.specs.TableFacts.{max_line}
 use Rattle.draw_values.specs.declared.runs.RunRows.{RunRows}
@@ -27,7 +26,7 @@ use Rattle.life_intervals.specs.Keys.{key_of}
 use Rattle.life_intervals.specs.Runs.{IsRun}
 use Rattle.row_lines.specs.RunFields.{AreMade, AreRowsOf, AreRunLines, size_for}
 use Rattle.row_lines.specs.Runs.{AreKeys, RunLinesOf, layout_for, line_for, listed_text, text_at, text_behind}
-use Rattle.row_lines.specs.TableLines.{TableLinesOf, behind_of, column_of, has_short_keys, is_short_at, is_short_kind, table_lines}
+use Rattle.row_lines.specs.TableLines.{TableLinesOf, behind_of, column_of, has_short_keys, is_short_at, is_valued, table_lines}
 use Rattle.row_lines.proofs.FieldLemmas.{length-decimal-le_20}
 use Rattle.row_lines.proofs.RunFieldLemmas.{key-short, line_for-size, own_from_short, run-birth, run-born, size-of_key, size-of_reference, text_at-key, text_at-own, text_at-reference}
 use Rattle.row_lines.proofs.RunListLemmas.{flat_map-indices, flat_map-range_same, length-flat_map_most}
@@ -56,22 +55,22 @@ pub column_of-is : (plan : Project) (table column : ℕ) (run : RunColumnOf) →
 column_of-is plan table column run below within is =
     subst (IsRunColumn plan) (sym is) (record { table_within = below; column_within = within; is = refl })
 
--- what is no key, no reference, no lookup and no date after a date is short where what is prepared of it says so
-pub short-drawn : (plan : Project) (table : ℕ) (column : RunColumnOf) (held : ReadyKind) → is_short_kind plan table column held ≡ true → (held ≡ kind.Key → ⊥) →
-    ((reference : ReadyReference) → held ≡ kind.Reference reference → ⊥) → ((lookup : ReadyLookup) → held ≡ kind.Lookup lookup → ⊥) → ((after : ReadyAfter) → held ≡ kind.After after → ⊥) → column.short ≡ true
-short-drawn plan table column kind.Key short no_key no_reference no_lookup no_after = absurd (no_key refl)
-short-drawn plan table column kind.Born short no_key no_reference no_lookup no_after = short
-short-drawn plan table column kind.Changed short no_key no_reference no_lookup no_after = short
-short-drawn plan table column (kind.Drawn leaf) short no_key no_reference no_lookup no_after = short
-short-drawn plan table column (kind.Template parts) short no_key no_reference no_lookup no_after = short
-short-drawn plan table column (kind.After after) short no_key no_reference no_lookup no_after = absurd (no_after after refl)
-short-drawn plan table column (kind.Sum of) short no_key no_reference no_lookup no_after = short
-short-drawn plan table column (kind.Product of) short no_key no_reference no_lookup no_after = short
-short-drawn plan table column (kind.Case on branches) short no_key no_reference no_lookup no_after = short
-short-drawn plan table column (kind.Reference reference) short no_key no_reference no_lookup no_after = absurd (no_reference reference refl)
-short-drawn plan table column (kind.Lookup lookup) short no_key no_reference no_lookup no_after = absurd (no_lookup lookup refl)
-short-drawn plan table column (kind.List list) short no_key no_reference no_lookup no_after = short
-short-drawn plan table column (kind.UnitDate date) short no_key no_reference no_lookup no_after = short
+-- what is ready as no key, no reference and no lookup holds no keys and looks nothing up
+pub valued-ready : (delimiter : ℕ) (held : KindLayout) → (ready_kind delimiter held ≡ kind.Key → ⊥) → ((reference : ReadyReference) → ready_kind delimiter held ≡ kind.Reference reference → ⊥) →
+    ((lookup : ReadyLookup) → ready_kind delimiter held ≡ kind.Lookup lookup → ⊥) → is_valued held ≡ true
+valued-ready delimiter key_kind no_key no_reference no_lookup = absurd (no_key refl)
+valued-ready delimiter born_kind no_key no_reference no_lookup = refl
+valued-ready delimiter changed_kind no_key no_reference no_lookup = refl
+valued-ready delimiter (leaf_kind leaf) no_key no_reference no_lookup = refl
+valued-ready delimiter (template_kind parts) no_key no_reference no_lookup = refl
+valued-ready delimiter (case_kind on branches) no_key no_reference no_lookup = refl
+valued-ready delimiter (reference_kind parent window spread nulls drawn) no_key no_reference no_lookup = absurd (no_reference _ refl)
+valued-ready delimiter (lookup_kind via parent name) no_key no_reference no_lookup = absurd (no_lookup _ refl)
+valued-ready delimiter (list_kind words) no_key no_reference no_lookup = refl
+valued-ready delimiter (unit_date_kind changed start step) no_key no_reference no_lookup = refl
+valued-ready delimiter (after_kind of lo hi) no_key no_reference no_lookup = refl
+valued-ready delimiter (sum_kind of) no_key no_reference no_lookup = refl
+valued-ready delimiter (product_kind of) no_key no_reference no_lookup = refl
 
 -- ---- what is drawn
 

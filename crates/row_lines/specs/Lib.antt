@@ -9,6 +9,7 @@ pub mod Kept
 pub mod Runs
 pub mod TableLines
 pub mod RunFields
+pub mod RunValues
 pub mod RunParents
 pub mod Reports
 pub mod Worked

@@ -1,12 +1,14 @@
 -- What the lines of a table's rows are made from, column by column.
-use Rattle.std.specs.Prelude.{◌≡◌, ℕ, ◌+◌, ◌^◌, Bool, false, true, List, Option, Some, None, length, map, nat_le}
+use Rattle.std.specs.Prelude.{◌≡◌, ℕ, ◌+◌, ◌^◌, ◌&&◌, Bool, false, true, List, Option, Some, None, length, map, nat_le}
 use Rattle.std.specs.List.{range_with_len}
+use Rattle.schema_plan.specs.declared.numbers.Numbers.{Numbers}
 use Rattle.schema_plan.specs.declared.ready.ReadyKind.{ReadyKind}
 use Rattle.schema_plan.specs.declared.ready.ReadyKind.TheVariants as kind
+use Rattle.schema_plan.specs.ColumnFacts.{field_facts}
 use Rattle.schema_plan.specs.Dictionaries.{Project}
-use Rattle.schema_plan.specs.Layout.{column_at, layout_of}
+use Rattle.schema_plan.specs.Layout.{KindLayout, column_at, key_kind, layout_of, lookup_kind, reference_kind}
 use Rattle.schema_plan.specs.Ready.{ready_kind}
-use Rattle.draw_values.specs.Runs.{RunColumnOf, run_column}
+use Rattle.draw_values.specs.Runs.{RunColumnOf, is_short_number, run_column}
 use Rattle.life_intervals.specs.Generator.{rows_in_all, table_of}
 use Rattle.row_lines.specs.Runs.{behind}
 
@@ -38,13 +40,27 @@ shown_of plan table column =
     shown_by plan (behind_of plan table column)
     (ready_kind (layout_of plan).delimiter (column_at (table_of plan table).columns column).kind)
 
+-- whether each of the numbers of a column has at most 13 digits; not where it isn't numeric
+abbrev pub are_small : Option Numbers → Bool
+are_small None = false
+are_small (Some numbers) = is_short_number numbers.least && is_short_number numbers.greatest
+
 -- whether the fields of a column of the table at a place are made as pieces, by what it holds and what is prepared of it
 abbrev pub is_short_kind : Project → ℕ → RunColumnOf → ReadyKind → Bool
 is_short_kind plan table column kind.Key = has_short_keys plan table
 is_short_kind plan table column (kind.Reference reference) = has_short_keys plan reference.parent
 is_short_kind plan table column (kind.Lookup lookup) = is_short_shown (shown_by plan column.behind (kind.Lookup lookup))
 is_short_kind plan table column (kind.After after) = true
+is_short_kind plan table column (kind.Sum of) = are_small (field_facts (layout_of plan) table column.column).numbers
+is_short_kind plan table column (kind.Product of) = are_small (field_facts (layout_of plan) table column.column).numbers
 is_short_kind plan table column _ = column.short
+
+-- whether a column holds no keys and looks nothing up
+abbrev pub is_valued : KindLayout → Bool
+is_valued key_kind = false
+is_valued (reference_kind parent window spread nulls drawn) = false
+is_valued (lookup_kind via parent name) = false
+is_valued _ = true
 
 abbrev pub is_short_at : Project → ℕ → ℕ → Bool
 is_short_at plan table column =

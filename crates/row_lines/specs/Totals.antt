@@ -1,5 +1,5 @@
 -- The days and the numbers of the rows of a cohort, and the totals that are made of them.
-use Rattle.std.specs.Prelude.{◌≡◌, ◌<◌, ◌≤◌, ℕ, ℤ, pos, ◌-◌, Bool, true, false, List, map, length, All, Option, Some, ⊤}
+use Rattle.std.specs.Prelude.{◌≡◌, ◌<◌, ◌≤◌, ℕ, ℤ, pos, ◌-◌, ◌+ℤ◌, ◌*ℤ◌, Bool, true, false, codes, List, map, length, All, Option, Some, None, ⊤}
 use Rattle.std.specs.List.{fold}
 use Rattle.cohort_sizes.specs.Births.{cohort_size}
 use Rattle.schema_plan.specs.declared.numbers.Numbers.{Numbers}
@@ -8,6 +8,7 @@ use Rattle.schema_plan.specs.ColumnFacts.{field_facts}
 use Rattle.schema_plan.specs.Layout.{KindLayout, after_kind, sum_kind, product_kind, layout_of}
 use Rattle.schema_plan.specs.Numbers as facts
 use Rattle.draw_values.specs.declared.leaf_numbers.Number.{Number}
+use Rattle.draw_values.specs.Values.{number_text}
 use Rattle.life_intervals.specs.CohortParents.{IsReferenceOf, reference_by}
 use Rattle.life_intervals.specs.Generator.{generator_of}
 use Rattle.schema_plan.specs.declared.ready.ReadyReference.{ReadyReference}
@@ -46,6 +47,16 @@ is_total (sum_kind of) = true
 is_total (product_kind of) = true
 is_total _ = false
 
+-- a sum or a product of the columns at some places
+abbrev pub total_kind : Join → List ℕ → KindLayout
+total_kind join.Sum of = sum_kind of
+total_kind join.Product of = product_kind of
+
+-- what is written for one, by its number
+abbrev pub total_text : Option Number → List ℕ
+total_text None = codes "\\N"
+total_text (Some number) = number_text number
+
 -- ---- how operands are joined
 
 abbrev pub join_of : Join → Number → Number → Number
@@ -56,6 +67,15 @@ join_of join.Product = times
 abbrev pub joined_operand : Join → Number → Number → ℤ
 joined_operand join.Sum so_far operand = facts.scaled (so_far.decimals - operand.decimals) operand.value
 joined_operand join.Product so_far operand = operand.value
+
+-- the same of their values, where the operand takes so many more digits in a sum
+abbrev pub operand_by : Join → ℕ → ℤ → ℤ
+operand_by join.Sum more operand = facts.scaled more operand
+operand_by join.Product more operand = operand
+
+abbrev pub joined_by : Join → ℕ → ℤ → ℤ → ℤ
+joined_by join.Sum more so_far operand = so_far +ℤ facts.scaled more operand
+joined_by join.Product more so_far operand = so_far *ℤ operand
 
 -- from which number they are joined, by the most digits of any operand
 abbrev pub start_of : Join → ℕ → Number

@@ -1,26 +1,27 @@
 //! The lines of the rows of a cohort. What doesn't change from row to row is worked out once.
 
-ghost use Rattle.std.specs.Prelude.{◌≡◌, ◌<◌, ◌≤◌, ℕ, ◌+◌, ◌*◌, ◌==◌, [], ◌∷◌, ◌++◌, false, get_or, if◌then◌else◌, true, length, min, sum_by};
+ghost use Rattle.std.specs.Prelude.{◌≡◌, ◌<◌, ◌≤◌, ℕ, ◌+◌, ◌*◌, ◌==◌, [], ◌∷◌, ◌++◌, IfSome, false, get_or, if◌then◌else◌, true, length, min, sum_by};
 ghost use Rattle.std.specs.List.{range_with_len};
 ghost use Rattle.line_pages.specs.Pieces.{piece_text};
 ghost use Rattle.line_pages.specs.Rows.{piece_text_at};
 ghost use Rattle.cohort_sizes.specs.Births.{birth, born_count, cohort_size};
-ghost use Rattle.schema_plan.specs.ColumnFacts.{field_cost};
+ghost use Rattle.schema_plan.specs.ColumnFacts.{field_cost, field_facts};
 ghost use Rattle.schema_plan.specs.FieldSizes.{size_at};
 ghost use Rattle.schema_plan.specs.Layout.{column_at, layout_of};
 ghost use Rattle.schema_plan.specs.Limits.{IsStillColumn};
 ghost use Rattle.schema_plan.specs.Lineage.{one_if};
 ghost use Rattle.schema_plan.specs.TableFacts.{line_cost, max_line};
+ghost use Rattle.draw_values.specs.CohortValues.{IsNumberOf};
 ghost use Rattle.life_intervals.specs.CohortParents.{asked_for_change};
 ghost use Rattle.life_intervals.specs.Generator.{last_unit, table_of};
 ghost use Rattle.row_lines.specs.CohortLines.{asked_for, asked_for_line, asked_where, change_for, is_live_for, key_for, layout_for, line_in_cohort, size_for, text_in_cohort, values_at};
 ghost use Rattle.row_lines.specs.TableLines.{behind_of};
 ghost use Rattle.row_lines.specs.Lookups.{IsLookupOf, text_held};
-ghost use Rattle.row_lines.specs.Totals.{IsDated};
+ghost use Rattle.row_lines.specs.Totals.{IsDated, is_total, total_text};
 
 use crate::bytes::{byte_behind, null_piece};
 use crate::cohort_fields::CohortFields;
-use draw_values::{CohortValues, day_piece};
+use draw_values::{CohortValues, Number, day_piece};
 use life_intervals::{Rows, birth, cohort};
 use line_pages::{PageBuf, Piece};
 use row_text::put_null;
@@ -249,6 +250,27 @@ impl<'a> CohortLines<'a> {
             Some(day) => day_piece(day, Piece::of_byte(behind)),
             None => null_piece(behind),
         }
+    }
+
+    /// Returns the number that the row holds in the column at a place, which must be a sum or a product. Returns None if the field is
+    /// null.
+    #[inline(always)]
+    pub(crate) fn total<L: Ledger>(
+        &self,
+        column: usize,
+        index: u64,
+        values: &CohortValues<'_>,
+        steps: &mut Steps<L>,
+    ) -> Option<Number>
+        requires column { column < length (layout_for self.now).columns }
+        requires total { is_total (column_at (layout_for self.now).columns column).kind ≡ true }
+        requires row { index < cohort_size (layout_for self.now).births self.now.born }
+        requires values { values.now ≡ values_at self.now (change_for self.now index) }
+        ensures text { text_in_cohort self.now index column ≡ total_text result }
+        ensures within { IfSome result (IsNumberOf (field_facts (layout_of self.now.plan) self.now.table column).numbers) }
+        ensures steps { steps.new ≤ steps.old + asked_for true self.now column }
+    {
+        self.fields.number(column, index, values, steps)
     }
 
     /// Appends the field of the lookup in the column at a place.

@@ -177,7 +177,7 @@ impl<'a> CohortFields<'a> {
 
     /// Returns the number from which the operands of the total in the column at a place are joined. A sum has the most digits after the
     /// point of any operand.
-    fn start(&self, column: usize, of: &[u64], join: Join) -> Number
+    pub(crate) fn start(&self, column: usize, of: &[u64], join: Join) -> Number
         requires { IsTotalOf self.now column of.now join }
         ensures { result ≡ start_of join (digits_for self.now of.now) }
     {

@@ -21,6 +21,7 @@ mod run_keys;
 mod run_lines;
 mod run_lookups;
 mod run_parents;
+mod run_totals;
 mod runs;
 mod spare;
 mod table_lines;

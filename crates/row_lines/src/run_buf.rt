@@ -27,14 +27,22 @@ impl RowBuf {
     }
 }
 
+/// The days or the numbers of rows in one column, and in another that they are joined with.
+#[derive(Drop)]
+pub(crate) struct ValueBuf {
+    pub(crate) values: [i64; MOST_ROWS],
+    pub(crate) operands: [i64; MOST_ROWS],
+}
+
 /// What the fields of rows are made from: the units of their last changes, their keys, the keys of their parents by one reference,
-/// a piece for each field, and what is drawn for fields of several items.
+/// their days or numbers in one column, a piece for each field, and what is drawn for fields of several items.
 #[derive(Drop)]
 pub(crate) struct FieldBuf {
     pub(crate) changes: [u64; MOST_ROWS],
     pub(crate) keys: [u64; MOST_ROWS],
     pub(crate) parent_keys: [u64; MOST_ROWS],
     pub(crate) numbers: RunNumbers,
+    pub(crate) values: ValueBuf,
     pub(crate) pieces: [Piece; PIECES],
     pub(crate) items: [ItemizedField; PIECES],
 }
@@ -59,6 +67,10 @@ impl RunBuf {
                 keys: [0; MOST_ROWS],
                 parent_keys: [0; MOST_ROWS],
                 numbers: RunNumbers::new(),
+                values: ValueBuf {
+                    values: [0; MOST_ROWS],
+                    operands: [0; MOST_ROWS],
+                },
                 pieces: [Piece::new(); PIECES],
                 items: [ItemizedField::new(); PIECES],
             },

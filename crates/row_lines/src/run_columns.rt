@@ -9,12 +9,13 @@ ghost use Rattle.schema_plan.specs.Lineage.{one_if};
 ghost use Rattle.life_intervals.specs.CohortParents.{IsReferenceOf, held_cost, reference_by};
 ghost use Rattle.life_intervals.specs.Generator.{table_of};
 ghost use Rattle.row_lines.specs.Runs.{AreKeys, layout_for};
-ghost use Rattle.row_lines.specs.RunFields.{AreItemized, AreMade, AreRowsOf, asked_short};
+ghost use Rattle.row_lines.specs.RunFields.{AreItemized, AreMade, AreRowsOf, asked_for, asked_short};
 ghost use Rattle.row_lines.specs.RunParents.{AreKnown};
-ghost use Rattle.row_lines.specs.TableLines.{behind_of, column_of, has_short_keys, is_short_at};
+ghost use Rattle.row_lines.specs.TableLines.{behind_of, column_of, has_short_keys, is_short_at, is_valued};
 
 use crate::bytes::{byte_behind, null_piece};
-use crate::run_buf::MOST_ROWS;
+use crate::derived::Join;
+use crate::run_buf::{MOST_ROWS, ValueBuf};
 use crate::run_parents::Parents;
 use crate::runs::RunLines;
 use draw_values::{ItemizedField, RunNumbers, RunRows};
@@ -34,6 +35,7 @@ impl<'a> RunLines<'a> {
         live: &mut [bool],
         parent_keys: &mut [u64],
         numbers: &mut RunNumbers,
+        values: &mut ValueBuf,
         pieces: &mut [Piece],
         steps: &mut Steps<L>,
     )
@@ -58,6 +60,7 @@ impl<'a> RunLines<'a> {
                 parent_keys,
                 live,
                 numbers,
+                values,
                 fields,
                 steps,
             );
@@ -113,6 +116,7 @@ impl<'a> RunLines<'a> {
         parent_keys: &mut [u64],
         live: &mut [bool],
         numbers: &mut RunNumbers,
+        values: &mut ValueBuf,
         pieces: &mut [Piece],
         steps: &mut Steps<L>,
     )
@@ -152,7 +156,65 @@ impl<'a> RunLines<'a> {
             ReadyKind::Lookup(lookup) => {
                 self.put_lookups(column, lookup, rows, parents, numbers, pieces, steps)
             }
-            ReadyKind::After(_) => self.put_dates(column, rows, behind, pieces, steps),
+            _ => self.put_valued(column, rows, live, behind, numbers, values, pieces, steps),
+        }
+    }
+
+    /// Makes the fields of a column of dates after dates, sums, products, units or drawn values.
+    fn put_valued<L: Ledger>(
+        &self,
+        column: usize,
+        rows: RunRows<'_>,
+        live: &mut [bool],
+        behind: u8,
+        numbers: &mut RunNumbers,
+        values: &mut ValueBuf,
+        pieces: &mut [Piece],
+        steps: &mut Steps<L>,
+    )
+        requires column { column < length (layout_for self.now).columns }
+        requires short { is_short_at self.now.plan self.now.table column ≡ true }
+        requires valued { is_valued (column_at (layout_for self.now).columns column).kind ≡ true }
+        requires behind { behind ≡ behind_of self.now.plan self.now.table column }
+        requires rows { AreRowsOf self.now rows }
+        requires live { length live.old ≡ length rows.ordinals.now }
+        requires pieces { length pieces.old ≡ length rows.ordinals.now }
+        ensures made { AreMade self.now rows.entry.ordinals.now pieces.new 0 column }
+        ensures steps { steps.new ≤ steps.old + length rows.entry.ordinals.now * asked_for self.now column }
+    {
+        let columns = self.rows.plan().columns(self.table);
+        match &columns[column].kind {
+            ReadyKind::After(_) => {
+                self.put_dates(column, rows, behind, numbers, values, pieces, steps)
+            }
+            ReadyKind::Sum { of } => {
+                self.put_totals(
+                    column,
+                    of.as_slice(),
+                    Join::Sum,
+                    rows,
+                    live,
+                    behind,
+                    numbers,
+                    values,
+                    pieces,
+                    steps,
+                )
+            }
+            ReadyKind::Product { of } => {
+                self.put_totals(
+                    column,
+                    of.as_slice(),
+                    Join::Product,
+                    rows,
+                    live,
+                    behind,
+                    numbers,
+                    values,
+                    pieces,
+                    steps,
+                )
+            }
             _ => self.put_drawn(column, rows, numbers, pieces),
         }
     }
@@ -239,7 +301,7 @@ impl<'a> RunLines<'a> {
 }
 
 /// Replaces each piece whose flag is false with the piece `null`.
-fn put_nulls(held: &[bool], null: Piece, pieces: &mut [Piece])
+pub(crate) fn put_nulls(held: &[bool], null: Piece, pieces: &mut [Piece])
     requires { length held.now ≡ length pieces.old }
     ensures { (i : ℕ) → i < length pieces.old → piece_text_at pieces.new i ≡ (if get_or held.now i false then piece_text_at pieces.old i else piece_text null) }
 {

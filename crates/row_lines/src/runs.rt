@@ -371,6 +371,7 @@ impl<'a> RunLines<'a> {
             live,
             parent_keys,
             &mut fields.numbers,
+            &mut fields.values,
             pieces,
             steps,
         );

@@ -2,18 +2,21 @@
 
 ghost use Rattle.std.specs.Prelude.{◌≡◌, ◌<◌, ◌≤◌, IfOk, length};
 ghost use Rattle.life_intervals.specs.Generator.{last_unit, table_of};
-ghost use Rattle.row_lines.specs.TableLines.{AreTableLines, column_of, has_short_keys, is_short_at, is_short_shown, shown_of};
+ghost use Rattle.row_lines.specs.TableLines.{AreTableLines, are_small, column_of, has_short_keys, is_short_at, is_short_shown, shown_of};
 
 use crate::bytes::byte_behind;
 use draw_values::RunColumn;
 use life_intervals::born;
 use out_of_memory::Memory;
-use schema_plan::{Plan, ReadyKind};
+use schema_plan::{Numbers, Plan, ReadyKind};
 use std::alloc::Global;
 use std::marker::Model;
 
 /// The first number of more than 15 digits.
 const LONG: u64 = 1_000_000_000_000_000;
+
+/// The first number of more than 13 digits.
+const LONG_NUMBER: u64 = 10_000_000_000_000;
 
 /// What the lines of a table's rows at a unit are made from, worked out once for a job. A contract sees the columns that are
 /// prepared for runs, the parents' columns that their lookups show, and which columns are made as pieces.
@@ -173,7 +176,23 @@ fn is_short(
         ReadyKind::Reference(reference) => has_short_keys(plan, reference.parent),
         ReadyKind::Lookup(_) => shown_is_short(shown),
         ReadyKind::After(_) => true,
+        ReadyKind::Sum { .. } | ReadyKind::Product { .. } => {
+            are_small(plan.numbers(table, column))
+        }
         _ => made.is_short(),
+    }
+}
+
+/// Whether each of the numbers of a column has at most 13 digits. False if the column isn't numeric.
+fn are_small(numbers: Option<Numbers>) -> bool
+    ensures { result ≡ are_small numbers }
+{
+    match numbers {
+        Some(numbers) => {
+            numbers.least.unsigned_abs() < LONG_NUMBER
+                && numbers.greatest.unsigned_abs() < LONG_NUMBER
+        }
+        None => false,
     }
 }
 

@@ -10,10 +10,9 @@ use Rattle.row_lines.specs.RunFields.{asked_for, asked_short}
 use Rattle.row_lines.specs.Runs.{RunLinesOf, layout_for}
 use Rattle.row_lines.specs.TableLines.{TableLinesOf, column_of, is_short_at, is_short_kind, table_lines}
 use Rattle.row_lines.proofs.CohortFieldLemmas.{ready_at}
-use Rattle.row_lines.proofs.DerivedLemmas.{dated_from_ready}
 use Rattle.row_lines.proofs.ReferenceFieldLemmas.{asked_by-reference}
 use Rattle.row_lines.proofs.RunFieldLemmas.{lines_of}
-use Rattle.row_lines.proofs.RunPieceLemmas.{AreRunLines-view, length-short, short-at, short-drawn}
+use Rattle.row_lines.proofs.RunPieceLemmas.{AreRunLines-view, length-short, short-at, valued-ready}
 use Rattle.row_lines.proofs.runs.RunLines.put_column.Goals as goal
 use Rattle.row_lines.proofs.runs.RunLines.put_column.Goals.{After-short-short}
 
@@ -70,21 +69,28 @@ put_lookups-requires-clause-short g c =
     let here = (goal.at.put_lookups-requires-clause-short g c).After-short-short in
     sym (short_is g here) ∙ c.if-not-short-column.false
 
-pub put_drawn-requires : goal.put_drawn-requires
-put_drawn-requires g c =
+pub put_valued-requires-clause-short : goal.put_valued-requires-clause-short
+put_valued-requires-clause-short g c =
+    let here = (goal.at.put_valued-requires-clause-short g c).After-short-short in
+    sym (short_is g here) ∙ c.if-not-short-column.false
+
+pub put_valued-requires-clause-valued : goal.put_valued-requires-clause-valued
+put_valued-requires-clause-valued g c =
     let lines : RunLinesOf = c.args.self.now in
-    let here = (goal.at.put_drawn-requires g c).After-short-short in
     let are = c.columns-columns.ensures.columns ∙ ap (λ (plan : Project). ready_columns (layout_of plan) c.self.inside.table) c.plan-plan.ensures
     ∙ ap (λ (of : RunLinesOf). ready_columns (layout_of of.plan) of.table) c.self.view_is in
     let is = kind_of lines c.columns-columns.result.now c.args.column c.index-columns-column.result are c.requires.column c.index-columns-column.is in
     let back = sym (is ∙ ap (λ (column : ReadyColumn). column.kind) c.index-columns-column.is) in
-    record {
-      column = c.requires.column;
-      short = short-drawn lines.plan lines.table (column_of lines.plan lines.table c.args.column) (ready_kind (layout_of lines.plan).delimiter (column_at (layout_for lines).columns c.args.column).kind)
-          (sym (short_is g here) ∙ c.if-not-short-column.false) (λ key. c.in_default.not-Key (back ∙ key)) (λ reference held. c.in_default.not-Reference reference (back ∙ held)) (λ lookup held. c.in_default.not-Lookup lookup (back ∙ held)) (λ after held. c.in_default.not-After after (back ∙ held));
-      rows = c.requires.rows;
-      pieces = c.requires.pieces;
-    }
+    valued-ready (layout_of lines.plan).delimiter (column_at (layout_for lines).columns c.args.column).kind
+    (λ key. c.in_default.not-Key (back ∙ key)) (λ reference held. c.in_default.not-Reference reference (back ∙ held)) (λ lookup held. c.in_default.not-Lookup lookup (back ∙ held))
+
+pub returns-in_default-clause-steps : goal.returns-in_default-clause-steps
+returns-in_default-clause-steps g c =
+    let lines : RunLinesOf = c.args.self.now in
+    let here = (goal.at.returns-in_default-clause-steps g c).After-short-short in
+    let asked : asked_short lines c.args.column ≡ asked_for lines c.args.column =
+    ap (λ (test : Bool). if test then asked_for lines c.args.column else 0) (sym (short_is g here) ∙ c.if-not-short-column.false) in
+    subst (λ (n : ℕ). c.put_valued.new.steps ≤ c.args.steps.now + length c.args.rows.ordinals.now * n) (sym asked) c.put_valued.ensures.steps
 
 pub returns-in-Reference-clause-steps : goal.returns-in-Reference-clause-steps
 returns-in-Reference-clause-steps g c =
@@ -98,23 +104,6 @@ returns-in-Reference-clause-steps g c =
     ap (λ (test : Bool). if test then asked_for lines c.args.column else 0) (sym (short_is g here) ∙ c.if-not-short-column.false)
     ∙ asked_by-reference true (lines_of lines) c.args.column c.in-Reference.reference (AreRunLines-view _ lines c.self.inside.lines.now c.self.view_is c.self.invariant).table (AreRunLines-view _ lines c.self.inside.lines.now c.self.view_is c.self.invariant).limits (record { within = c.requires.column; is = is }) in
     subst (λ (n : ℕ). c.put_references.new.steps ≤ c.args.steps.now + length c.args.rows.ordinals.now * n) (sym asked) c.put_references.ensures.steps
-
-pub put_dates-requires-clause-dated : goal.put_dates-requires-clause-dated
-put_dates-requires-clause-dated g c =
-    let lines : RunLinesOf = c.args.self.now in
-    let are = c.columns-columns.ensures.columns ∙ ap (λ (plan : Project). ready_columns (layout_of plan) c.self.inside.table) c.plan-plan.ensures
-    ∙ ap (λ (of : RunLinesOf). ready_columns (layout_of of.plan) of.table) c.self.view_is in
-    let is = kind_of lines c.columns-columns.result.now c.args.column c.index-columns-column.result are c.requires.column c.index-columns-column.is
-    ∙ (ap (λ (column : ReadyColumn). column.kind) c.index-columns-column.is ∙ c.in-After.is) in
-    dated_from_ready (layout_of lines.plan).delimiter (column_at (layout_for lines).columns c.args.column).kind c.in-After.field-0 is
-
-pub returns-in-After-clause-steps : goal.returns-in-After-clause-steps
-returns-in-After-clause-steps g c =
-    let lines : RunLinesOf = c.args.self.now in
-    let here = (goal.at.returns-in-After-clause-steps g c).After-short-short in
-    let asked : asked_short lines c.args.column ≡ asked_for lines c.args.column =
-    ap (λ (test : Bool). if test then asked_for lines c.args.column else 0) (sym (short_is g here) ∙ c.if-not-short-column.false) in
-    subst (λ (n : ℕ). c.put_dates.new.steps ≤ c.args.steps.now + length c.args.rows.ordinals.now * n) (sym asked) c.put_dates.ensures.steps
 
 pub returns-in-Lookup-clause-steps : goal.returns-in-Lookup-clause-steps
 returns-in-Lookup-clause-steps g c =

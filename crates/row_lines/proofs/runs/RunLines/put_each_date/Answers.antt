@@ -6,7 +6,7 @@ use Rattle.row_lines.specs.CohortLines.{LinesOf}
 use Rattle.row_lines.specs.RunFields.{size_for}
 use Rattle.row_lines.specs.Runs.{RunLinesOf, text_at, text_behind}
 use Rattle.row_lines.proofs.RowOfRunLemmas.{of_unit}
-use Rattle.row_lines.proofs.runs.RunLines.put_dates.Goals as goal
+use Rattle.row_lines.proofs.runs.RunLines.put_each_date.Goals as goal
 
 pub loop-row-preserved : goal.loop-row-preserved
 loop-row-preserved g c =

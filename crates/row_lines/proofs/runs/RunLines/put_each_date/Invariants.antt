@@ -3,7 +3,7 @@ use Rattle.line_pages.specs.Pieces.{piece_text}
 use Rattle.row_lines.specs.RunFields.{asked_for, size_for}
 use Rattle.row_lines.specs.Runs.{text_at, text_behind}
 use Rattle.row_lines.proofs.RowOfRunLemmas.{of_unit}
-use Rattle.row_lines.proofs.runs.RunLines.put_dates.Given as goal
+use Rattle.row_lines.proofs.runs.RunLines.put_each_date.Given as goal
 
 abbrev pub invariant-loop-row : goal.invariant-loop-row
 invariant-loop-row g l = record {
