@@ -1,104 +1,76 @@
 -- The document that declares a detail table: which keys stand where, of which types, and what they declare.
-use Rattle.std.specs.Prelude.{ℕ, ℤ, List, [], ◌∷◌, Bool, false, Option, Some, None, codes, if◌then◌else◌, option_and_then, option_map}
-use Rattle.std.specs.List.{list_all}
-use Rattle.toml.specs.Data.{Data, Members, get_member, as_bool, as_integer, as_str, as_table}
-use Rattle.schema_read.specs.Document.{member_names, same_bytes}
+use Rattle.std.specs.Prelude.{pos, List, [], ◌∷◌, false, Option, Some, None, if◌then◌else◌, option_and_then, option_map}
+use Rattle.toml.specs.Data.{Data, Members, as_str, as_table}
+use Rattle.schema_read.specs.declared.fault.Expected.TheVariants.{Whole, TextValue, TableList}
+use Rattle.schema_read.specs.declared.schema_key.SchemaKey.TheVariants as key
+use Rattle.schema_read.specs.declared.wanted.Wanted.{Wanted}
+use Rattle.schema_read.specs.declared.wanted.Wanted.TheVariants.{Required}
+use Rattle.schema_read.specs.Shape.{are_right, leaf_given}
 use Rattle.schema_read.specs.Types.{as_list_of}
+use Rattle.schema_read.specs.Values.{flag_or, text, text_list, value_under, whole, whole_or}
 use Rattle.detail_plan.specs.declared.detail.Detail.{Detail}
 use Rattle.detail_plan.specs.declared.detail.DetailColumn.{DetailColumn}
 use Rattle.detail_plan.specs.declared.detail.DetailKind.{DetailKind}
-use Rattle.detail_plan.specs.declared.detail.DetailKind.TheVariants.{Int, Pick}
-use Rattle.detail_plan.specs.declared.key.DetailKey.{DetailKey}
-use Rattle.detail_plan.specs.declared.key.DetailKey.TheVariants as key
-use Rattle.detail_plan.specs.Keys.{is_among, key_name}
-
--- ---- what stands under a key
-
--- the value under a key, where there is one of the type
-abbrev pub under : {A : Type 0} → (Data → Option A) → DetailKey → Members → Option A
-under read k members = option_and_then read (get_member (key_name k) members)
-
--- a flag that may be missing, and is false then
-abbrev pub flag_of : Option Data → Option Bool
-flag_of None = Some false
-flag_of (Some value) = as_bool value
-
-abbrev pub flag_under : DetailKey → Members → Option Bool
-flag_under k members = flag_of (get_member (key_name k) members)
-
--- a table has no keys beside some
-abbrev pub has_only : List DetailKey → Members → Bool
-has_only keys members = list_all (is_among keys) (member_names members)
+use Rattle.detail_plan.specs.declared.detail.DetailKind.TheVariants as kind
+use Rattle.detail_plan.specs.declared.kind_name.DetailKindName.{DetailKindName}
+use Rattle.detail_plan.specs.declared.kind_name.DetailKindName.TheVariants.{Leaf, Parent, After, Sum, Product}
+use Rattle.detail_plan.specs.Kinds.{column_keys, kind_named}
 
 -- ---- a column
 
--- the keys of a column of numbers, and of one of entries
-abbrev pub int_keys : List DetailKey
-int_keys = key.Name ∷ key.Kind ∷ key.Changes ∷ key.Lo ∷ key.Hi ∷ []
+-- the kind that a table names
+abbrev pub kind_under : Members → Option DetailKindName
+kind_under ms = option_and_then kind_named (value_under as_str key.Kind ms)
 
-abbrev pub pick_keys : List DetailKey
-pick_keys = key.Name ∷ key.Kind ∷ key.Changes ∷ key.Entries ∷ []
+-- what a column of a kind holds
+abbrev pub kind_given : DetailKindName → Members → DetailKind
+kind_given (Leaf leaf) ms = kind.Leaf (leaf_given leaf ms)
+kind_given Parent ms = kind.Parent (text key.Column ms)
+kind_given After ms = kind.After (text key.Of ms) (whole key.Lo ms) (whole key.Hi ms)
+kind_given Sum ms = kind.Sum (text_list key.Of ms)
+kind_given Product ms = kind.Product (text_list key.Of ms)
 
--- whole numbers from `lo` to `hi`
-abbrev pub int_under : Members → Option DetailKind
-int_under members =
-    option_and_then (λ lo. option_map (λ hi. Int lo hi) (under as_integer key.Hi members)) (under as_integer key.Lo members)
+abbrev pub column_of : DetailKindName → Members → DetailColumn
+column_of kind ms =
+    record { name = text key.Name ms; kind = kind_given kind ms; changes = flag_or false key.Changes ms; null = whole_or (pos 0) key.Null ms }
 
--- one of the texts `entries`
-abbrev pub pick_under : Members → Option DetailKind
-pick_under members = option_map Pick (under (as_list_of as_str) key.Entries members)
-
--- what a column of the kind `int` or `pick` holds, where its keys are right
-abbrev pub kind_named : Members → List ℕ → Option DetailKind
-kind_named members name =
-    if same_bytes name (codes "int") then (if has_only int_keys members then int_under members else None) else
-    (if same_bytes name (codes "pick") then (if has_only pick_keys members then pick_under members else None) else None)
-
-abbrev pub kind_under : Members → Option DetailKind
-kind_under members = option_and_then (kind_named members) (under as_str key.Kind members)
-
-abbrev pub column_of : Bool → DetailKind → List ℕ → DetailColumn
-column_of changes kind name = record { name = name; kind = kind; changes = changes }
+-- the column of a kind, where each key is right
+abbrev pub column_of_kind : Members → DetailKindName → Option DetailColumn
+column_of_kind ms kind = if are_right (column_keys kind) ms then Some (column_of kind ms) else None
 
 -- the column that a table declares; None where it has a wrong key
 abbrev pub column_given : Members → Option DetailColumn
-column_given members =
-    option_and_then (λ changes.
-    option_and_then (λ kind. option_map (column_of changes kind) (under as_str key.Name members)) (kind_under members))
-    (flag_under key.Changes members)
+column_given ms = option_and_then (column_of_kind ms) (kind_under ms)
 
 abbrev pub as_column : Data → Option DetailColumn
 as_column value = option_and_then column_given (as_table value)
 
 -- ---- the document
 
-abbrev pub top_keys : List DetailKey
-top_keys = key.Seed ∷ key.Lo ∷ key.Hi ∷ key.Name ∷ key.Parent ∷ key.Column ∷ []
-
--- the whole numbers, and the texts
-abbrev pub wholes_under : Members → Option (ℤ × ℤ × ℤ)
-wholes_under members =
-    option_and_then (λ seed.
-    option_and_then (λ lo. option_map (λ hi. (seed, lo, hi)) (under as_integer key.Hi members)) (under as_integer key.Lo members))
-    (under as_integer key.Seed members)
-
-abbrev pub names_under : Members → Option (List ℕ × List ℕ)
-names_under members =
-    option_and_then (λ name. option_map (λ parent. (name, parent)) (under as_str key.Parent members)) (under as_str key.Name members)
+abbrev pub top_keys : List Wanted
+top_keys =
+    Required key.Seed Whole
+    ∷ Required key.Lo Whole
+    ∷ Required key.Hi Whole
+    ∷ Required key.Name TextValue
+    ∷ Required key.Parent TextValue
+    ∷ Required key.Column TableList
+    ∷ []
 
 abbrev pub columns_under : Members → Option (List DetailColumn)
-columns_under members = under (as_list_of as_column) key.Column members
+columns_under ms = value_under (as_list_of as_column) key.Column ms
 
-abbrev pub detail_of : (ℤ × ℤ × ℤ) → (List ℕ × List ℕ) → List DetailColumn → Detail
-detail_of wholes names columns =
-    record { seed = wholes.0; lo = wholes.1; hi = wholes.2; name = names.0; parent = names.1; columns = columns }
-
-abbrev pub detail_under : Members → Option Detail
-detail_under members =
-    option_and_then (λ wholes.
-    option_and_then (λ names. option_map (detail_of wholes names) (columns_under members)) (names_under members))
-    (wholes_under members)
+abbrev pub detail_of : Members → List DetailColumn → Detail
+detail_of ms columns =
+    record {
+      seed = whole key.Seed ms;
+      lo = whole key.Lo ms;
+      hi = whole key.Hi ms;
+      name = text key.Name ms;
+      parent = text key.Parent ms;
+      columns = columns;
+    }
 
 -- the detail table that a document declares; None where it has a wrong key: one is missing, of another type, or has no place there
 abbrev pub detail_given : Members → Option Detail
-detail_given members = if has_only top_keys members then detail_under members else None
+detail_given ms = if are_right top_keys ms then option_map (detail_of ms) (columns_under ms) else None

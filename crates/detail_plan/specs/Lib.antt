@@ -1,6 +1,8 @@
-pub mod Keys
+pub mod Kinds
 pub mod Form
 pub mod Reading
+pub mod Beside
 pub mod Rules
 pub mod Limits
+pub mod Kept
 pub mod Faults

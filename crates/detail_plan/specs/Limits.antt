@@ -1,26 +1,21 @@
 -- What the numbers of a detail table are, where its rules hold.
-use Rattle.std.specs.Prelude.{ℕ, ◌≤◌, All, List, length}
+use Rattle.std.specs.Prelude.{ℕ, ◌<◌, ◌≤◌, All, List, length}
+use Rattle.schema_model.specs.declared.column.Column.{Column}
+use Rattle.schema_plan.specs.declared.column_facts.ColumnFacts.{ColumnFacts}
 use Rattle.schema_plan.specs.Counts.{count}
-use Rattle.schema_plan.specs.Limits.{IsCount, IsRange}
+use Rattle.schema_plan.specs.Dictionaries.{Dictionary, Project}
+use Rattle.schema_plan.specs.Layout.{kind_layout}
+use Rattle.schema_plan.specs.Limits.{CanBeReady, IsCount, IsOfOthersAmong}
+use Rattle.schema_plan.specs.Rules.{kind_at}
 use Rattle.detail_plan.specs.declared.detail.Detail.{Detail}
-use Rattle.detail_plan.specs.declared.detail.DetailColumn.{DetailColumn}
-use Rattle.detail_plan.specs.declared.detail.DetailKind.{DetailKind}
-use Rattle.detail_plan.specs.declared.detail.DetailKind.TheVariants.{Int, Pick}
+use Rattle.detail_plan.specs.Beside.{columns_beside}
 
--- from 1 to 256 entries
-pub record AreEntries (entries : List (List ℕ)) : Type 0 where
-  pub some_entry : 1 ≤ length entries
-  pub few_entries : length entries ≤ 256
+-- at most 999 of a thousand fields are null, and what is drawn can be made ready
+pub record IsColumnInLimits (lists : List Dictionary) (column : Column) : Type 0 where
+  pub nulls : count column.null ≤ 999
+  pub ready : CanBeReady lists column.kind
 
--- numbers from lo to hi, which is less than 2^63 past lo; or entries
-abbrev pub IsKindInLimits : DetailKind → Type 0
-IsKindInLimits (Int lo hi) = IsRange lo hi
-IsKindInLimits (Pick entries) = AreEntries entries
-
-abbrev pub IsColumnInLimits : DetailColumn → Type 0
-IsColumnInLimits column = IsKindInLimits column.kind
-
-pub record IsInLimits (detail : Detail) : Type 0 where
+pub record IsInLimits (lists : List Dictionary) (detail : Detail) : Type 0 where
   pub seed : IsCount detail.seed
   pub lo : IsCount detail.lo
   pub hi : IsCount detail.hi
@@ -29,4 +24,11 @@ pub record IsInLimits (detail : Detail) : Type 0 where
   pub few_lines : count detail.hi ≤ 64
   pub some_column : 1 ≤ length detail.columns
   pub few_columns : length detail.columns ≤ 32
-  pub columns : All IsColumnInLimits detail.columns
+  pub columns : All (IsColumnInLimits lists) (columns_beside detail)
+
+-- over a schema and by their facts, the columns that are made of others are made of earlier ones, with days or numbers
+abbrev pub AreMadeOfEarlier : Project → List ColumnFacts → Detail → Type 0
+AreMadeOfEarlier plan facts detail =
+    (place : ℕ) → place < length detail.columns →
+    IsOfOthersAmong facts place
+    (kind_layout plan.dictionaries plan.schema.tables (columns_beside detail) (kind_at (columns_beside detail) place))

@@ -1,41 +1,54 @@
--- The rules of a detail table over a schema, E1 to E5, and the first that is broken.
-use Rattle.std.specs.Prelude.{◌≡◌, ℕ, suc, pos, ◌+◌, ◌*◌, List, [], ◌∷◌, Bool, true, false, not, ◌&&◌, Option, Some, None, int_le, is_some, length, map, max, nat_le, sum_by}
+-- The rules of a detail table over a schema, E1 to E6, and the first that is broken. The word lists are all that there are: the schema's
+-- and those that are handed in behind them.
+use Rattle.std.specs.Prelude.{ℕ, pos, ◌+◌, ◌*◌, List, [], ◌∷◌, Bool, true, false, not, ◌&&◌, Option, Some, None, filter, int_le, is_some, length, nat_le, option_map}
 use Rattle.std.specs.List.{list_all, range_with_len}
+use Rattle.schema_model.specs.declared.column.Column.{Column}
+use Rattle.schema_plan.specs.declared.column_facts.ColumnFacts.{ColumnFacts}
+use Rattle.schema_plan.specs.Beside.{facts_beside, line_beside}
+use Rattle.schema_plan.specs.Citations.{citable_in}
 use Rattle.schema_plan.specs.Counts.{count}
-use Rattle.schema_plan.specs.Dictionaries.{Project}
-use Rattle.schema_plan.specs.FieldSizes.{greatest_by, written_size}
-use Rattle.schema_plan.specs.Layout.{layout_of}
+use Rattle.schema_plan.specs.Dictionaries.{Dictionary, Project, dictionary_named}
+use Rattle.schema_plan.specs.FactsBefore.{facts_among}
+use Rattle.schema_plan.specs.Layout.{columns_of, place_of_table}
 use Rattle.schema_plan.specs.Names.{is_name}
 use Rattle.schema_plan.specs.Planned.{table_named}
-use Rattle.schema_plan.specs.Rules.{is_new_at, is_range}
+use Rattle.schema_plan.specs.Rules.{are_columns_supplied, has_still_column, keeps_column_rules}
 use Rattle.detail_plan.specs.declared.detail.Detail.{Detail}
 use Rattle.detail_plan.specs.declared.detail.DetailColumn.{DetailColumn}
 use Rattle.detail_plan.specs.declared.detail.DetailKind.{DetailKind}
-use Rattle.detail_plan.specs.declared.detail.DetailKind.TheVariants.{Int, Pick}
+use Rattle.detail_plan.specs.declared.detail.DetailKind.TheVariants.{Parent}
+use Rattle.detail_plan.specs.Beside.{columns_beside, table_beside}
 
--- ---- sizes, in bytes as they are written with a delimiter
+-- ---- word lists
 
--- the greatest size of a field, never less than that of a null one
-abbrev pub kind_size : ℕ → DetailKind → ℕ
-kind_size delimiter (Int lo hi) = 20
-kind_size delimiter (Pick entries) = max 2 (greatest_by (written_size delimiter) entries)
+-- whether a name is that of no word list of the schema
+abbrev pub is_new_list : Project → List ℕ → Bool
+is_new_list plan name = not (is_some (dictionary_named plan.dictionaries name))
 
-abbrev pub column_size : ℕ → DetailColumn → ℕ
-column_size delimiter column = kind_size delimiter column.kind
+-- the word lists that the file cites and the schema doesn't have, in the order of their first citations; None where the file cites one that
+-- may not be cited
+abbrev pub citations_of : Project → Detail → Option (List (List ℕ))
+citations_of plan detail = option_map (filter (is_new_list plan)) (citable_in (columns_beside detail))
 
--- the greatest size of a line: 24 for the parent's key and the number, each with the byte behind it, and for each column its field with a
--- byte behind it
-abbrev pub line_size : ℕ → Detail → ℕ
-line_size delimiter detail = 24 + sum_by (column_size delimiter) detail.columns + length detail.columns
+-- ---- facts and sizes
+
+-- the facts of the columns, in order
+abbrev pub facts_of : Project → Detail → List ColumnFacts
+facts_of plan detail = facts_beside plan (table_beside detail)
+
+-- the greatest size of a line, in bytes: its number with the byte behind it takes 3, and the parent's key is the field of the reference
+abbrev pub line_size : Project → List Dictionary → Detail → ℕ
+line_size plan lists detail = line_beside plan lists (columns_beside detail) + 3
 
 -- the greatest size of all lines of a row of the parent
-abbrev pub reach_by : ℕ → Detail → ℕ
-reach_by delimiter detail = count detail.hi * line_size delimiter detail
-
-abbrev pub reach_of : Project → Detail → ℕ
-reach_of plan detail = reach_by (layout_of plan).delimiter detail
+abbrev pub reach_of : Project → List Dictionary → Detail → ℕ
+reach_of plan lists detail = count detail.hi * line_size plan lists detail
 
 -- ---- the rules
+
+-- E6: each word list that the file cites has a name of 1 to 255 bytes, the file cites at most 64 different ones, and each is there
+abbrev pub has_lists : List Dictionary → Detail → Bool
+has_lists lists detail = are_columns_supplied lists (columns_beside detail)
 
 -- E1: the seed is at least 0, and the name is a name that no table of the schema has
 abbrev pub has_new_name : Project → Detail → Bool
@@ -51,49 +64,51 @@ abbrev pub has_line_counts : Detail → Bool
 has_line_counts detail =
     int_le (pos 0) detail.lo && int_le detail.lo detail.hi && int_le (pos 1) detail.hi && int_le detail.hi (pos 64)
 
--- numbers from lo to hi, which is at most 2^63 - 1 past lo; or 1 to 256 entries
-abbrev pub is_kind : DetailKind → Bool
-is_kind (Int lo hi) = is_range lo hi
-is_kind (Pick entries) = nat_le 1 (length entries) && nat_le (length entries) 256
+-- each column keeps the rules of columns
+abbrev pub keep_column_rules : List ColumnFacts → List Column → ℕ → Bool
+keep_column_rules facts columns count =
+    list_all (λ place. keeps_column_rules (facts_among facts place) columns place) (range_with_len 0 count)
 
--- the names of columns
-abbrev pub names_of : List DetailColumn → List (List ℕ)
-names_of columns = map (λ (column : DetailColumn). column.name) columns
+-- the columns of the parent's table
+abbrev pub parent_columns : Project → Detail → List Column
+parent_columns plan detail = columns_of plan.schema.tables (place_of_table plan.schema.tables detail.parent)
 
--- each column has a name that none before it has
-abbrev pub are_new_names : List DetailColumn → Bool
-are_new_names columns = list_all (is_new_at (names_of columns)) (range_with_len 0 (length columns))
+-- a column of the parent that is shown stands in its table, doesn't move and is no lookup
+abbrev pub is_shown : List Column → DetailKind → Bool
+is_shown parent (Parent column) = has_still_column parent column
+is_shown parent _ = true
 
--- E4: there are 1 to 32 columns, each with a name of its own and with numbers or entries in their range
-abbrev pub has_columns : Detail → Bool
-has_columns detail =
-    nat_le 1 (length detail.columns) && nat_le (length detail.columns) 32 && are_new_names detail.columns
-    && list_all (λ (column : DetailColumn). is_kind column.kind) detail.columns
+abbrev pub are_shown : List Column → List DetailColumn → Bool
+are_shown parent columns = list_all (λ (column : DetailColumn). is_shown parent column.kind) columns
+
+-- E4: there are 1 to 32 columns, and each keeps the rules of columns
+abbrev pub has_columns : Project → Detail → Bool
+has_columns plan detail =
+    nat_le 1 (length detail.columns) && nat_le (length detail.columns) 32
+    && keep_column_rules (facts_of plan detail) (columns_beside detail) (length detail.columns)
+    && are_shown (parent_columns plan detail) detail.columns
 
 -- E5: all lines of a row of the parent together have at most 65,536 bytes
-abbrev pub has_short_lines : Project → Detail → Bool
-has_short_lines plan detail = nat_le (reach_of plan detail) 65536
+abbrev pub has_short_lines : Project → List Dictionary → Detail → Bool
+has_short_lines plan lists detail = nat_le (reach_of plan lists detail) 65536
 
--- whether each rule holds, in order
-abbrev pub rules : Project → Detail → List Bool
-rules plan detail =
-    has_new_name plan detail
-    ∷ has_parent plan detail
-    ∷ has_line_counts detail
-    ∷ has_columns detail
-    ∷ has_short_lines plan detail
+-- each rule by its number, and whether it holds, in the order in which they are tried
+abbrev pub rules : Project → List Dictionary → Detail → List (ℕ × Bool)
+rules plan lists detail =
+    (6, has_lists lists detail)
+    ∷ (1, has_new_name plan detail)
+    ∷ (2, has_parent plan detail)
+    ∷ (3, has_line_counts detail)
+    ∷ (4, has_columns plan detail)
+    ∷ (5, has_short_lines plan lists detail)
     ∷ []
 
--- the number of the first that doesn't hold, counted from n
-abbrev pub first_false : ℕ → List Bool → Option ℕ
-first_false n [] = None
-first_false n (true ∷ others) = first_false (suc n) others
-first_false n (false ∷ others) = Some n
+-- the number of the first that doesn't hold
+abbrev pub first_false : List (ℕ × Bool) → Option ℕ
+first_false [] = None
+first_false ((number, true) ∷ others) = first_false others
+first_false ((number, false) ∷ others) = Some number
 
 -- the first rule that is broken, E1 as 1
-abbrev pub first_broken : Project → Detail → Option ℕ
-first_broken plan detail = first_false 1 (rules plan detail)
-
--- all rules hold over a schema
-pub record KeepsRules (plan : Project) (detail : Detail) : Type 0 where
-  pub keeps : first_broken plan detail ≡ None
+abbrev pub first_broken : Project → List Dictionary → Detail → Option ℕ
+first_broken plan lists detail = first_false (rules plan lists detail)

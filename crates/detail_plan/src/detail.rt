@@ -1,6 +1,6 @@
 //! The declaration in a document, as plain data.
 
-use schema_model::{Sequence, Text, Texts};
+use schema_model::{Leaf, Sequence, Text, Texts};
 
 /// A detail table: lines for each row of its parent. Each line has the row's key and a number, counted from 1.
 #[derive(Debug, PartialEq)]
@@ -44,6 +44,8 @@ pub struct DetailColumn {
     pub kind: DetailKind,
     /// Whether its fields are drawn anew when the parent's row changes.
     pub changes: bool,
+    /// How many fields of a thousand are null.
+    pub null: i64,
 }
 
 impl Drop for DetailColumn {
@@ -52,6 +54,7 @@ impl Drop for DetailColumn {
             name,
             kind,
             changes: _,
+            null: _,
         } = self;
         drop(name);
         drop(kind);
@@ -61,17 +64,25 @@ impl Drop for DetailColumn {
 /// What the fields of a column hold.
 #[derive(Debug, PartialEq)]
 pub enum DetailKind {
-    /// A whole number from `lo` to `hi`. All are drawn equally often.
-    Int { lo: i64, hi: i64 },
-    /// One of the entries. All are drawn equally often.
-    Pick { entries: Texts },
+    /// A value that is drawn for the field only.
+    Leaf(Leaf),
+    /// The field of the parent's row in the column of this name.
+    Parent { column: Text },
+    /// A date from `lo` to `hi` days after the date of the column named `of`.
+    After { of: Text, lo: i64, hi: i64 },
+    /// The sum of the numbers of the named columns.
+    Sum { of: Texts },
+    /// The product of the numbers of the named columns.
+    Product { of: Texts },
 }
 
 impl Drop for DetailKind {
     fn drop(self) {
         match self {
-            DetailKind::Int { lo: _, hi: _ } => {}
-            DetailKind::Pick { entries } => drop(entries),
+            DetailKind::Leaf(leaf) => drop(leaf),
+            DetailKind::Parent { column } => drop(column),
+            DetailKind::After { of, lo: _, hi: _ } => drop(of),
+            DetailKind::Sum { of } | DetailKind::Product { of } => drop(of),
         }
     }
 }

@@ -4,15 +4,13 @@ ghost use Rattle.std.specs.Prelude.{◌≡◌, ◌≢◌, Err, Ok, None, Some, I
 ghost use Rattle.toml.specs.View.{table_view};
 ghost use Rattle.schema_read.specs.Document.{document};
 ghost use Rattle.detail_plan.specs.Reading.{declared, declared_by};
-ghost use Rattle.detail_plan.specs.Form.{detail_given, detail_under, names_under, wholes_under};
+ghost use Rattle.detail_plan.specs.Form.{columns_under, detail_given, detail_of};
 ghost use Rattle.detail_plan.specs.declared.read.DetailReadFault.TheVariants.{Memory as OutOfMemory};
 
-use crate::columns::columns_under;
-use crate::detail::Detail;
-use crate::key::{DetailKey, TOP_KEYS};
-use crate::members::{has_only, text_under, whole_under};
+use crate::detail::{Detail, DetailColumns};
+use crate::wanted::TOP_KEYS;
 use out_of_memory::Memory;
-use schema_model::Text;
+use schema_read::{SchemaKey, has_right_keys, list_if_any, text_at, whole_at};
 use std::alloc::Global;
 use toml::Table;
 
@@ -35,48 +33,38 @@ impl From<Memory> for DetailReadFault {
     }
 }
 
-/// Reads the three whole numbers of a document: its seed, and the fewest and the most lines of a row.
-fn wholes_under(members: &Table) -> Option<(i64, i64, i64)>
-    ensures { result ≡ wholes_under (table_view members.now) }
+/// Reads the detail table that the keys of a document declare, with these columns.
+fn detail_of(alloc: Global, members: &Table, columns: DetailColumns) -> Result<Detail, Memory>
+    ensures { IfOk result (λ read. read ≡ detail_of (table_view members.now) columns) }
 {
-    let seed = whole_under(members, DetailKey::Seed)?;
-    let lo = whole_under(members, DetailKey::Lo)?;
-    let hi = whole_under(members, DetailKey::Hi)?;
-    Some((seed, lo, hi))
+    let name = text_at(alloc, members, SchemaKey::Name)?;
+    let parent = text_at(alloc, members, SchemaKey::Parent)?;
+    Ok(Detail {
+        seed: whole_at(members, SchemaKey::Seed),
+        lo: whole_at(members, SchemaKey::Lo),
+        hi: whole_at(members, SchemaKey::Hi),
+        name,
+        parent,
+        columns,
+    })
 }
 
-/// Reads the two texts of a document: its name and its parent's.
-fn names_under(alloc: Global, members: &Table) -> Result<Option<(Text, Text)>, Memory>
-    ensures { IfOk result (λ found. found ≡ names_under (table_view members.now)) }
+/// Reads the columns of a document. Returns None if one of them has a wrong key.
+fn columns_under(alloc: Global, members: &Table) -> Result<Option<DetailColumns>, Memory>
+    ensures { IfOk result (λ found. found ≡ columns_under (table_view members.now)) }
 {
-    let Some(name) = text_under(alloc, members, DetailKey::Name)? else {
+    list_if_any(alloc, members, SchemaKey::Column)
+}
+
+/// Reads the detail table that a document declares. Returns None if one of its keys is wrong.
+fn detail_given(alloc: Global, members: &Table) -> Result<Option<Detail>, Memory>
+    ensures { IfOk result (λ found. found ≡ detail_given (table_view members.now)) }
+{
+    if !has_right_keys(members, &TOP_KEYS, &[]) {
         return Ok(None);
-    };
-    match text_under(alloc, members, DetailKey::Parent)? {
-        Some(parent) => Ok(Some((name, parent))),
-        None => Ok(None),
     }
-}
-
-/// Reads the detail table from the keys of a document. Returns None if one is missing or of another type.
-fn detail_under(alloc: Global, members: &Table) -> Result<Option<Detail>, Memory>
-    ensures { IfOk result (λ found. found ≡ detail_under (table_view members.now)) }
-{
-    let Some((seed, lo, hi)) = wholes_under(members) else {
-        return Ok(None);
-    };
-    let Some((name, parent)) = names_under(alloc, members)? else {
-        return Ok(None);
-    };
     match columns_under(alloc, members)? {
-        Some(columns) => Ok(Some(Detail {
-            seed,
-            lo,
-            hi,
-            name,
-            parent,
-            columns,
-        })),
+        Some(columns) => Ok(Some(detail_of(alloc, members, columns)?)),
         None => Ok(None),
     }
 }
@@ -109,10 +97,7 @@ fn detail_of_table(alloc: Global, members: &Table) -> Result<Detail, DetailReadF
     ensures read { IfOk result (λ detail. declared_by (Some (table_view members.now)) ≡ Ok detail) }
     ensures refused { IfErr result (λ fault. fault ≢ DetailReadFault.Memory → declared_by (Some (table_view members.now)) ≡ Err fault) }
 {
-    if !has_only(members, &TOP_KEYS) {
-        return Err(DetailReadFault::WrongForm);
-    }
-    match detail_under(alloc, members)? {
+    match detail_given(alloc, members)? {
         Some(detail) => Ok(detail),
         None => Err(DetailReadFault::WrongForm),
     }

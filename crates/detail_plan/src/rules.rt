@@ -1,18 +1,16 @@
 //! The rules of a detail table.
 
-ghost use Rattle.std.specs.Prelude.{◌≡◌, ◌<◌, length, sum_by};
-ghost use Rattle.std.specs.List.{list_all, list_any};
+ghost use Rattle.std.specs.Prelude.{◌≡◌, ◌≤◌, length};
 ghost use Rattle.schema_plan.specs.Capped.{capped};
-ghost use Rattle.schema_plan.specs.FieldSizes.{greatest_by, written_size};
-ghost use Rattle.schema_plan.specs.Names.{same_text};
-ghost use Rattle.schema_plan.specs.Rules.{is_new_at};
-ghost use Rattle.detail_plan.specs.Rules.{are_new_names, column_size, first_broken, has_columns, has_line_counts, has_new_name, has_parent, has_short_lines, is_kind, kind_size, names_of, reach_by};
+ghost use Rattle.detail_plan.specs.Beside.{columns_beside};
+ghost use Rattle.detail_plan.specs.Rules.{are_shown, facts_of, first_broken, has_columns, has_line_counts, has_new_name, has_parent, has_short_lines, is_shown, keep_column_rules, parent_columns, reach_of};
 
 use crate::detail::{Detail, DetailColumn, DetailKind};
-use row_text::field_size;
-use schema_check::{is_name, is_range};
-use schema_model::Text;
-use schema_plan::{Plan, count};
+use schema_check::{are_columns_supplied, has_still_column, is_name, keeps_column_rules};
+use schema_model::Column;
+use schema_plan::{
+    ColumnFacts, Dictionaries, Plan, columns_of, count, facts_among, place_of_table,
+};
 
 /// The most lines of a row.
 const MAX_LINES: i64 = 64;
@@ -20,34 +18,36 @@ const MAX_LINES: i64 = 64;
 /// The most columns.
 const MAX_COLUMNS: usize = 32;
 
-/// The most entries of a column.
-const MAX_ENTRIES: usize = 256;
-
 /// The most bytes of all lines of a row.
 const MAX_REACH: u64 = 65_536;
 
-/// The greatest length of a whole number of 64 bits with its sign, in bytes.
-const WHOLE_SIZE: u64 = 20;
+/// The greatest size of a line's number with a byte after it, in bytes.
+const NUMBER_SIZE: u64 = 3;
 
-/// The length of a null field, in bytes. No greatest size of an entry's field is less.
-const NULL_SIZE: u64 = 2;
-
-/// The greatest size of a row's key and a line's number, with a byte after each, in bytes.
-const HEAD_SIZE: u64 = 24;
-
-/// Returns the number of the first rule that a detail table breaks over a plan, or None if it keeps all. The number 1 means E1.
-pub(crate) fn first_broken(plan: &Plan, detail: &Detail) -> Option<u32>
-    ensures { result ≡ first_broken plan.now detail.now }
+/// Returns the number of the first rule that a detail table breaks over a plan, or None if it keeps all. The number 1 means E1. The columns
+/// are those of the detail table beside the schema, and the facts are theirs.
+pub(crate) fn first_broken(
+    plan: &Plan,
+    lists: &Dictionaries,
+    detail: &Detail,
+    columns: &[Column],
+    facts: &[ColumnFacts],
+) -> Option<u32>
+    requires columns { columns.now ≡ columns_beside detail.now }
+    requires facts { facts.now ≡ facts_of plan.now detail.now }
+    ensures { result ≡ first_broken plan.now lists.now detail.now }
 {
-    if !has_new_name(plan, detail) {
+    if !are_columns_supplied(lists, columns) {
+        Some(6)
+    } else if !has_new_name(plan, detail) {
         Some(1)
     } else if !has_parent(plan, detail) {
         Some(2)
     } else if !has_line_counts(detail) {
         Some(3)
-    } else if !has_columns(detail) {
+    } else if !has_columns(plan, detail, columns, facts) {
         Some(4)
-    } else if !has_short_lines(plan, detail) {
+    } else if !has_short_lines(plan, lists, detail, columns) {
         Some(5)
     } else {
         None
@@ -72,101 +72,63 @@ fn has_line_counts(detail: &Detail) -> bool
     0 <= detail.lo && detail.lo <= detail.hi && 1 <= detail.hi && detail.hi <= MAX_LINES
 }
 
-fn has_columns(detail: &Detail) -> bool
-    ensures { result ≡ has_columns detail.now }
+fn has_columns(plan: &Plan, detail: &Detail, columns: &[Column], facts: &[ColumnFacts]) -> bool
+    requires columns { columns.now ≡ columns_beside detail.now }
+    requires facts { facts.now ≡ facts_of plan.now detail.now }
+    ensures { result ≡ has_columns plan.now detail.now }
 {
-    let columns = detail.columns.as_slice();
-    1 <= columns.len()
-        && columns.len() <= MAX_COLUMNS
-        && are_new_names(columns)
-        && are_kinds(columns)
+    let own = detail.columns.as_slice();
+    1 <= own.len()
+        && own.len() <= MAX_COLUMNS
+        && keep_column_rules(facts, columns, own.len())
+        && are_shown(parent_columns(plan, detail), own)
 }
 
-/// Whether each column has a valid name that no column before it has.
-fn are_new_names(columns: &[DetailColumn]) -> bool
-    ensures { result ≡ are_new_names columns.now }
+/// Whether each of the first columns keeps the rules of columns.
+fn keep_column_rules(facts: &[ColumnFacts], columns: &[Column], count: usize) -> bool
+    requires { count ≤ length columns.now }
+    ensures { result ≡ keep_column_rules facts.now columns.now count }
 {
-    (0..columns.len()).all(|place| is_new_column(columns, place))
+    (0..count).all(|place| keeps_column_rules(facts_among(facts, place), columns, place))
 }
 
-/// Whether the column at a place has a valid name that no column before it has.
-fn is_new_column(columns: &[DetailColumn], place: usize) -> bool
-    requires { place < length columns.now }
-    ensures { result ≡ is_new_at (names_of columns.now) place }
+/// Returns the columns of the parent's table. Of no table there are none.
+fn parent_columns<'a>(plan: &'a Plan, detail: &Detail) -> &'a [Column]
+    ensures { result.now ≡ parent_columns plan.now detail.now }
 {
-    let name = &columns[place].name;
-    is_name(name) && !is_column_named(&columns[..place], name)
+    let tables = plan.schema().tables.as_slice();
+    columns_of(tables, place_of_table(tables, &detail.parent))
 }
 
-/// Whether one of some columns has this name.
-fn is_column_named(columns: &[DetailColumn], name: &Text) -> bool
-    ensures { result ≡ list_any (λ column. same_text column.name name.now) columns.now }
+/// Whether each column of the parent that is shown can be.
+fn are_shown(parent: &[Column], columns: &[DetailColumn]) -> bool
+    ensures { result ≡ are_shown parent.now columns.now }
 {
-    columns.iter().any(|column| column.name == *name)
+    columns.iter().all(|column| is_shown(parent, &column.kind))
 }
 
-fn are_kinds(columns: &[DetailColumn]) -> bool
-    ensures { result ≡ list_all (λ column. is_kind column.kind) columns.now }
-{
-    columns.iter().all(|column| is_kind(&column.kind))
-}
-
-fn is_kind(kind: &DetailKind) -> bool
-    ensures { result ≡ is_kind kind.now }
+/// Whether a column of the parent that is shown stands in its table, doesn't move and is no lookup.
+fn is_shown(parent: &[Column], kind: &DetailKind) -> bool
+    ensures { result ≡ is_shown parent.now kind.now }
 {
     match kind {
-        DetailKind::Int { lo, hi } => is_range(*lo, *hi),
-        DetailKind::Pick { entries } => 1 <= entries.len() && entries.len() <= MAX_ENTRIES,
+        DetailKind::Parent { column } => has_still_column(parent, column),
+        _ => true,
     }
-}
-
-/// Returns the greatest size of an entry as it is written, in bytes.
-fn greatest_entry(delimiter: u8, entries: &[Text]) -> u64
-    ensures { result ≡ greatest_by (written_size delimiter) entries.now }
-{
-    let mut most = 0;
-    for entry in entries {
-        most = most.max(field_size(Some(entry.as_str().as_bytes()), delimiter) as u64);
-    }
-    most
-}
-
-/// Returns the greatest size of a field, in bytes.
-fn kind_size(delimiter: u8, kind: &DetailKind) -> u64
-    ensures { result ≡ kind_size delimiter kind.now }
-{
-    match kind {
-        DetailKind::Int { .. } => WHOLE_SIZE,
-        DetailKind::Pick { entries } => greatest_entry(delimiter, entries.as_slice()).max(
-            NULL_SIZE,
-        ),
-    }
-}
-
-/// Returns the sum of the greatest sizes of the fields of some columns, in bytes, at most 2^64 - 1.
-fn columns_size(delimiter: u8, columns: &[DetailColumn]) -> u64
-    ensures { result ≡ capped (sum_by (column_size delimiter) columns.now) }
-{
-    let mut size: u64 = 0;
-    for column in columns {
-        size = size.saturating_add(kind_size(delimiter, &column.kind));
-    }
-    size
 }
 
 /// Returns the greatest size of all lines of a row of the parent, in bytes, at most 2^64 - 1.
-pub(crate) fn reach(delimiter: u8, detail: &Detail) -> u64
-    ensures { result ≡ capped (reach_by delimiter detail.now) }
+pub(crate) fn reach(plan: &Plan, lists: &Dictionaries, detail: &Detail, columns: &[Column]) -> u64
+    requires { columns.now ≡ columns_beside detail.now }
+    ensures { result ≡ capped (reach_of plan.now lists.now detail.now) }
 {
-    let columns = detail.columns.as_slice();
-    let size = HEAD_SIZE
-        .saturating_add(columns_size(delimiter, columns))
-        .saturating_add(columns.len() as u64);
+    let size = plan.line_beside(lists, columns).saturating_add(NUMBER_SIZE);
     count(detail.hi).saturating_mul(size)
 }
 
-fn has_short_lines(plan: &Plan, detail: &Detail) -> bool
-    ensures { result ≡ has_short_lines plan.now detail.now }
+fn has_short_lines(plan: &Plan, lists: &Dictionaries, detail: &Detail, columns: &[Column]) -> bool
+    requires { columns.now ≡ columns_beside detail.now }
+    ensures { result ≡ has_short_lines plan.now lists.now detail.now }
 {
-    reach(plan.delimiter(), detail) <= MAX_REACH
+    reach(plan, lists, detail, columns) <= MAX_REACH
 }

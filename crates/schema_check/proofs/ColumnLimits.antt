@@ -16,7 +16,7 @@ use Rattle.schema_model.specs.declared.column.Part.{Part}
 use Rattle.schema_model.specs.declared.column.Part.TheVariants as part
 use Rattle.schema_plan.specs.declared.days.Days.{Days}
 use Rattle.schema_plan.specs.declared.numbers.Numbers.{Numbers}
-use Rattle.schema_plan.specs.Citations.{leaves_of}
+use Rattle.schema_plan.specs.Citations.{cited_names, leaves_of}
 use Rattle.schema_plan.specs.Counts.{count}
 use Rattle.schema_plan.specs.Dictionaries.{AreWordLists, Dictionary, Project}
 use Rattle.schema_plan.specs.Layout.{ColumnLayout, column_at, column_layout, kind_layout, leaf_layout, no_column, part_layout, place_of_column}
@@ -146,7 +146,7 @@ case_from_test dictionaries tables columns place within on branches h each =
 
 -- ---- a column by its kind
 
-after_range_from_test : (lo hi : ℤ) → is_after_range lo hi ≡ true → IsAfterRange lo hi
+pub after_range_from_test : (lo hi : ℤ) → is_after_range lo hi ≡ true → IsAfterRange lo hi
 after_range_from_test lo hi h =
     let v = and_parts (int_le (neg_ℤ (pos 36525)) lo && int_le lo hi) (int_le hi (pos 36525)) h in
     let w = and_parts (int_le (neg_ℤ (pos 36525)) lo) (int_le lo hi) v.0 in
@@ -154,7 +154,7 @@ after_range_from_test lo hi h =
 
 pub kind_in_limits : (project : Project) → AreWordLists project.dictionaries → (tables : List Table) (columns : List Column) (place : ℕ) → place ≤ length columns → (kind : Kind) → is_supplied_kind project kind ≡ true → list_all is_number_range (leaves_of kind) ≡ true → list_all is_date_range (leaves_of kind) ≡ true → list_all is_weighted (leaves_of kind) ≡ true → list_all is_skew_range (leaves_of kind) ≡ true → list_all is_length_range (leaves_of kind) ≡ true → is_template columns place kind ≡ true → is_case columns place kind ≡ true → is_spread kind ≡ true → (days : Option Days) → is_later_date days columns place kind ≡ true → IsKindInLimits (columns_layout project.dictionaries tables columns) place (kind_layout project.dictionaries tables columns kind)
 kind_in_limits project lists tables columns place within (kind.Leaf leaf) supplied numbers dates picks skews lengths parts case spread days later =
-    leaf_in_limits project lists leaf
+    leaf_in_limits (cited_names project.schema.tables) project.dictionaries lists leaf
     ((and_parts (are_supplied project leaf) true supplied).0)
     ((and_parts (is_number_range leaf) true numbers).0)
     ((and_parts (is_date_range leaf) true dates).0)
@@ -164,9 +164,9 @@ kind_in_limits project lists tables columns place within (kind.Leaf leaf) suppli
 kind_in_limits project lists tables columns place within (kind.Template of) supplied numbers dates picks skews lengths parts case spread days later =
     template_from_test project.dictionaries tables columns place within of parts
 kind_in_limits project lists tables columns place within (kind.Case on branches) supplied numbers dates picks skews lengths parts case spread days later =
-    case_from_test project.dictionaries tables columns place within on branches case (leaves_in_limits project lists branches supplied numbers dates picks skews lengths)
+    case_from_test project.dictionaries tables columns place within on branches case (leaves_in_limits (cited_names project.schema.tables) project.dictionaries lists branches supplied numbers dates picks skews lengths)
 kind_in_limits project lists tables columns place within (kind.Ref table window weights on_delete deal) supplied numbers dates picks skews lengths parts case spread days later = spread_from_test weights spread
-kind_in_limits project lists tables columns place within (kind.List file) supplied numbers dates picks skews lengths parts case spread days later = words_supplied project lists file supplied
+kind_in_limits project lists tables columns place within (kind.List file) supplied numbers dates picks skews lengths parts case spread days later = words_supplied (cited_names project.schema.tables) project.dictionaries lists file supplied
 kind_in_limits project lists tables columns place within (kind.After of lo hi) supplied numbers dates picks skews lengths parts case spread days later =
     let v = and_parts (is_after_range lo hi && is_some days) (is_redrawn_at columns place || not (moves_at columns (place_of_column columns of))) later in
     after_range_from_test lo hi (and_parts (is_after_range lo hi) (is_some days) v.0).0

@@ -1,5 +1,5 @@
 -- An accepted schema is within its limits.
-use Rattle.std.proofs.Common.{◌≡◌, ◌≢◌, ℕ, pos, negsuc, suc, ◌<◌, ◌≤◌, ◌^◌, All, Bool, true, false, not, ◌&&◌, ◌||◌, List, length, slice_get, refl, sym, ap, ◌∙◌, subst, arith, int_le, nat_le, nat_lt, ◌==◌, Option, Some, None, IfSome, ℤ}
+use Rattle.std.proofs.Common.{◌≡◌, ◌≢◌, ℕ, pos, negsuc, suc, ◌<◌, ◌≤◌, ◌^◌, All, Bool, true, false, not, ◌&&◌, ◌||◌, List, length, slice_get, take, refl, sym, ap, ◌∙◌, subst, arith, int_le, nat_le, nat_lt, ◌==◌, Option, Some, None, IfSome, ℤ}
 use Rattle.std.specs.List.{position_or_len}
 use Rattle.std.specs.Option.{option_map}
 use Rattle.std.proofs.lemmas.Bool.{and_parts, leb-true}
@@ -13,7 +13,7 @@ use Rattle.schema_plan.specs.declared.rules.Rule.{Rule}
 use Rattle.schema_plan.specs.declared.rules.Rule.TheVariants.{Dictionaries, SeedAndUnits, TableCount, Columns, KeyColumn, RowCount, LifeRange, UpdatePeriod, NumberRange, DateRange, PickEntries, SkewRange, LengthRange, TemplateParts, CaseBranches, StillCitations, ReferenceTargets, ReferenceWindows, ParentRows, SpreadWeights, LookupColumns, RowCost, LineSize, ChangesAndNulls, UnitDates, LaterDates, Totals, PaddedParts}
 use Rattle.schema_plan.specs.declared.site.Site.TheVariants.{Whole, OfTable, OfColumn}
 use Rattle.cohort_sizes.specs.Births.{born_count}
-use Rattle.schema_plan.specs.ColumnFacts.{field_facts}
+use Rattle.schema_plan.specs.ColumnFacts.{column_facts, column_facts_at, field_facts}
 use Rattle.schema_plan.specs.Counts.{count}
 use Rattle.schema_plan.specs.Dictionaries.{AreWordLists, Dictionary, Project}
 use Rattle.schema_plan.specs.Layout.{ColumnLayout, TableLayout, births_of, column_at, column_layout, key_kind, keys_of_kind, kind_layout, layout_of, span_of, table_at, table_layout}
@@ -24,6 +24,7 @@ use Rattle.schema_plan.specs.Sites.{columns_at}
 use Rattle.schema_plan.specs.TableFacts.{cost, max_line}
 use Rattle.schema_check.proofs.ColumnLimits.{cites_still_columns, columns_layout, filled_from_test, key_never_null, kind_at-layout, kind_in_limits, null_at-layout, null_limit, reference_never_null, unchanged, unit_date_from_test}
 use Rattle.schema_plan.proofs.FactsLemmas.{table_at-is}
+use Rattle.schema_plan.proofs.FieldFactsLemmas.{are_field_facts}
 use Rattle.schema_check.proofs.FirstBreak.{none_of_rule}
 use Rattle.schema_check.proofs.FromTests.{count_from_test, least_from_test, limit_from_test}
 use Rattle.schema_check.proofs.Kept.{keeps_from_none, none_at}
@@ -234,12 +235,13 @@ others_in_limits project accepted few i j h within =
     let kind_is : (column_at (table_at (layout_of project).tables i).columns j).kind ≡ kind_layout dictionaries tables columns (kind_at columns j) =
     ap (λ (layouts : List ColumnLayout). (column_at layouts j).kind) at ∙ kind_at-layout dictionaries tables columns j column in
     subst (IsOfOthersInLimits (layout_of project) i j) (sym kind_is)
-    (others_from_tests project i j columns (kind_at columns j)
+    (others_from_tests (layout_of project).units (take i (column_facts (layout_of project))) (column_facts_at (layout_of project) i) dictionaries tables j columns (kind_at columns j)
+    (are_field_facts (layout_of project) i j (kind_layout dictionaries tables columns (kind_at columns j))
     (record {
       below = omega (arith, h, length-map tables (table_layout dictionaries tables));
       within = omega (arith, column, leb-true (length columns) 64 counted.1);
       kind_is = kind_is;
-    })
+    }))
     (later_date_kept project accepted few i j h column) (total_kept project accepted few i j h column))
 
 -- a number of one of the first 64 tables is at most its limit

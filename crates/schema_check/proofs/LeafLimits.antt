@@ -9,13 +9,13 @@ use Rattle.std.proofs.lemmas.List.{get_or-map, length-map}
 use Rattle.dictionaries.specs.WordList.{WordList, IsWordList}
 use Rattle.schema_model.specs.declared.column.Leaf.{Leaf}
 use Rattle.schema_model.specs.declared.column.Leaf.TheVariants as drawn
-use Rattle.schema_plan.specs.Citations.{cited_names, may_cite}
+use Rattle.schema_plan.specs.Citations.{may_cite}
 use Rattle.schema_plan.specs.Counts.{count}
-use Rattle.schema_plan.specs.Dictionaries.{AreWordLists, Dictionary, Project, dictionary_named, no_words, words_named}
+use Rattle.schema_plan.specs.Dictionaries.{AreWordLists, Dictionary, dictionary_named, no_words, words_named}
 use Rattle.schema_plan.specs.Layout.{leaf_layout}
 use Rattle.schema_plan.specs.Limits.{IsAlphabet, IsDateRange, IsLeafInLimits, IsLengthRange, IsRange, IsSkew, IsWeighted}
 use Rattle.schema_plan.specs.Names.{same_text}
-use Rattle.schema_plan.specs.Rules.{are_supplied, is_between, is_date_range, is_length_between, is_length_range, is_number_range, is_range, is_skew_range, is_supplied, is_weighted}
+use Rattle.schema_plan.specs.Rules.{are_supplied_by, is_between, is_date_range, is_length_between, is_length_range, is_number_range, is_range, is_skew_range, is_supplied_by, is_weighted}
 use Rattle.schema_check.proofs.FromTests.{le_from_test, least_from_test, limit_from_test, passes_each}
 
 range_from_test : (lo hi : ℤ) → is_range lo hi ≡ true → IsRange lo hi
@@ -119,34 +119,34 @@ list_found test (d ∷ dictionaries) lists h =
     of_test true h later = lists 0 d (omega arith)
     of_test false h later = later h
 
-pub words_supplied : (project : Project) → AreWordLists project.dictionaries → (name : List ℕ) → is_supplied project name ≡ true → IsWordList (words_named project.dictionaries name)
-words_supplied project lists name supplied =
-    let there = (and_parts (may_cite (cited_names project.schema.tables) name) (is_some (dictionary_named project.dictionaries name)) supplied).1 in
-    list_found (λ (d : Dictionary). same_text d.name name) project.dictionaries lists there
+pub words_supplied : (names : List (List ℕ)) (dictionaries : List Dictionary) → AreWordLists dictionaries → (name : List ℕ) → is_supplied_by names dictionaries name ≡ true → IsWordList (words_named dictionaries name)
+words_supplied names dictionaries lists name supplied =
+    let there = (and_parts (may_cite names name) (is_some (dictionary_named dictionaries name)) supplied).1 in
+    list_found (λ (d : Dictionary). same_text d.name name) dictionaries lists there
 
-words_from_test : (project : Project) → AreWordLists project.dictionaries → (name : List ℕ) → (is_supplied project name && true) ≡ true → IsWordList (words_named project.dictionaries name)
-words_from_test project lists name h = words_supplied project lists name (and_parts (is_supplied project name) true h).0
+words_from_test : (names : List (List ℕ)) (dictionaries : List Dictionary) → AreWordLists dictionaries → (name : List ℕ) → (is_supplied_by names dictionaries name && true) ≡ true → IsWordList (words_named dictionaries name)
+words_from_test names dictionaries lists name h = words_supplied names dictionaries lists name (and_parts (is_supplied_by names dictionaries name) true h).0
 
-pub leaf_in_limits : (project : Project) → AreWordLists project.dictionaries → (leaf : Leaf) → are_supplied project leaf ≡ true → is_number_range leaf ≡ true → is_date_range leaf ≡ true → is_weighted leaf ≡ true → is_skew_range leaf ≡ true → is_length_range leaf ≡ true → IsLeafInLimits (leaf_layout project.dictionaries leaf)
-leaf_in_limits project lists (drawn.Int lo hi step) supplied numbers dates picks skews lengths =
+pub leaf_in_limits : (names : List (List ℕ)) (dictionaries : List Dictionary) → AreWordLists dictionaries → (leaf : Leaf) → are_supplied_by names dictionaries leaf ≡ true → is_number_range leaf ≡ true → is_date_range leaf ≡ true → is_weighted leaf ≡ true → is_skew_range leaf ≡ true → is_length_range leaf ≡ true → IsLeafInLimits (leaf_layout dictionaries leaf)
+leaf_in_limits names dictionaries lists (drawn.Int lo hi step) supplied numbers dates picks skews lengths =
     let parts = and_parts (is_range lo hi) (int_le (pos 1) step) numbers in
     (range_from_test lo hi parts.0, least_from_test step 1 parts.1)
-leaf_in_limits project lists (drawn.Fixed lo hi decimals) supplied numbers dates picks skews lengths =
+leaf_in_limits names dictionaries lists (drawn.Fixed lo hi decimals) supplied numbers dates picks skews lengths =
     let parts = and_parts (is_range lo hi) (is_between 0 9 decimals) numbers in
     (range_from_test lo hi parts.0, limit_from_test decimals 9 ((and_parts (int_le (pos 0) decimals) (int_le decimals (pos 9)) parts.1).1))
-leaf_in_limits project lists (drawn.Date lo hi) supplied numbers dates picks skews lengths = dates_from_test lo hi dates
-leaf_in_limits project lists (drawn.Pick entries weights) supplied numbers dates picks skews lengths = weights_from_test entries weights picks
-leaf_in_limits project lists (drawn.Skew lo size power) supplied numbers dates picks skews lengths = skew_from_test lo size power skews
-leaf_in_limits project lists (drawn.Dict file) supplied numbers dates picks skews lengths = words_from_test project lists file supplied
-leaf_in_limits project lists (drawn.Words file lo hi) supplied numbers dates picks skews lengths =
-    (words_from_test project lists file supplied, lengths_from_test lo hi lengths)
-leaf_in_limits project lists (drawn.Chars alphabet lo hi) supplied numbers dates picks skews lengths = characters_from_test alphabet lo hi lengths
-leaf_in_limits project lists drawn.Uuid supplied numbers dates picks skews lengths = tt
+leaf_in_limits names dictionaries lists (drawn.Date lo hi) supplied numbers dates picks skews lengths = dates_from_test lo hi dates
+leaf_in_limits names dictionaries lists (drawn.Pick entries weights) supplied numbers dates picks skews lengths = weights_from_test entries weights picks
+leaf_in_limits names dictionaries lists (drawn.Skew lo size power) supplied numbers dates picks skews lengths = skew_from_test lo size power skews
+leaf_in_limits names dictionaries lists (drawn.Dict file) supplied numbers dates picks skews lengths = words_from_test names dictionaries lists file supplied
+leaf_in_limits names dictionaries lists (drawn.Words file lo hi) supplied numbers dates picks skews lengths =
+    (words_from_test names dictionaries lists file supplied, lengths_from_test lo hi lengths)
+leaf_in_limits names dictionaries lists (drawn.Chars alphabet lo hi) supplied numbers dates picks skews lengths = characters_from_test alphabet lo hi lengths
+leaf_in_limits names dictionaries lists drawn.Uuid supplied numbers dates picks skews lengths = tt
 
-pub leaves_in_limits : (project : Project) → AreWordLists project.dictionaries → (leaves : List Leaf) → list_all (are_supplied project) leaves ≡ true → list_all is_number_range leaves ≡ true → list_all is_date_range leaves ≡ true → list_all is_weighted leaves ≡ true → list_all is_skew_range leaves ≡ true → list_all is_length_range leaves ≡ true → All IsLeafInLimits (map (leaf_layout project.dictionaries) leaves)
-leaves_in_limits project lists leaves supplied numbers dates picks skews lengths = λ i d lt.
-    let within : i < length leaves = omega (arith, lt, length-map leaves (leaf_layout project.dictionaries)) in
+pub leaves_in_limits : (names : List (List ℕ)) (dictionaries : List Dictionary) → AreWordLists dictionaries → (leaves : List Leaf) → list_all (are_supplied_by names dictionaries) leaves ≡ true → list_all is_number_range leaves ≡ true → list_all is_date_range leaves ≡ true → list_all is_weighted leaves ≡ true → list_all is_skew_range leaves ≡ true → list_all is_length_range leaves ≡ true → All IsLeafInLimits (map (leaf_layout dictionaries) leaves)
+leaves_in_limits names dictionaries lists leaves supplied numbers dates picks skews lengths = λ i d lt.
+    let within : i < length leaves = omega (arith, lt, length-map leaves (leaf_layout dictionaries)) in
     let leaf = get_or leaves i (drawn.Date (pos 0) (pos 0)) in
     let passes = λ (test : Leaf → Bool) (all : list_all test leaves ≡ true). passes_each test leaves i (drawn.Date (pos 0) (pos 0)) within all in
-    subst IsLeafInLimits (sym (get_or-map (leaf_layout project.dictionaries) leaves i (drawn.Date (pos 0) (pos 0)) d within))
-    (leaf_in_limits project lists leaf (passes (are_supplied project) supplied) (passes is_number_range numbers) (passes is_date_range dates) (passes is_weighted picks) (passes is_skew_range skews) (passes is_length_range lengths))
+    subst IsLeafInLimits (sym (get_or-map (leaf_layout dictionaries) leaves i (drawn.Date (pos 0) (pos 0)) d within))
+    (leaf_in_limits names dictionaries lists leaf (passes (are_supplied_by names dictionaries) supplied) (passes is_number_range numbers) (passes is_date_range dates) (passes is_weighted picks) (passes is_skew_range skews) (passes is_length_range lengths))

@@ -9,6 +9,7 @@ pub mod LeafLemmas
 pub mod LeafLimits
 pub mod ReferenceLimits
 pub mod ColumnLimits
+pub mod BesideLimits
 pub mod LookupLimits
 pub mod OtherLimits
 pub mod InLimits

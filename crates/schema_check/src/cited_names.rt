@@ -2,15 +2,15 @@
 
 ghost use Rattle.std.specs.Prelude.{◌≡◌, IfOk, is_some};
 ghost use Rattle.std.specs.List.{list_all, list_any};
-ghost use Rattle.schema_plan.specs.Citations.{cited_names, may_cite, may_cite_all, may_cite_of_kind};
+ghost use Rattle.schema_plan.specs.Citations.{may_cite, may_cite_all, may_cite_of_kind};
 ghost use Rattle.schema_plan.specs.Dictionaries.{dictionary_named};
 ghost use Rattle.schema_plan.specs.Names.{same_text};
-ghost use Rattle.schema_plan.specs.Rules.{are_supplied, is_supplied, is_supplied_kind};
+ghost use Rattle.schema_plan.specs.Rules.{are_supplied_by, is_supplied_by, is_supplied_kind_by};
 
-use crate::candidate::Candidate;
 use crate::leaf_rules::leaves_of;
 use out_of_memory::Memory;
-use schema_model::{Column, Kind, Leaf, Schema, Table, Text, Texts};
+use schema_model::{Column, Kind, Leaf, Schema, Text, Texts};
+use schema_plan::Dictionaries;
 use std::alloc::Global;
 use std::marker::Model;
 
@@ -40,7 +40,7 @@ impl<'a> Model for CitedNames<'a> {
 impl<'a> CitedNames<'a> {
     ghost use Rattle.std.specs.Prelude.{◌≡◌, ℕ, ◌<◌, List, [], ◌∷◌, ◌++◌, flat_map, length, map, take};
     ghost use Rattle.std.specs.List.{fold};
-    ghost use Rattle.schema_plan.specs.Citations.{cited_names, has_name, names_in_columns, names_in_kind, names_in_leaf, with_name};
+    ghost use Rattle.schema_plan.specs.Citations.{cited_in, cited_names, has_name, names_in_columns, names_in_kind, names_in_leaf, with_name};
 
     /// Returns no names.
     fn none() -> CitedNames<'a>
@@ -73,17 +73,27 @@ impl<'a> CitedNames<'a> {
     {
         let mut names = CitedNames::none();
         for table in schema.tables.as_slice() {
-            names.add_table(table);
+            names.add_columns(table.columns.as_slice());
         }
         names
     }
 
-    /// Adds the names that a table cites.
-    fn add_table(&mut self, table: &'a Table)
-        ensures { (before : List (List ℕ)) → self.old ≡ take 64 before →
-            self.new ≡ take 64 (fold with_name before (names_in_columns table.now.columns)) }
+    /// Returns the first names that some columns cite.
+    #[tactic(auto, unfolding(schema_plan::specs::Citations::cited_in))]
+    pub(crate) fn of_columns(columns: &'a [Column]) -> CitedNames<'a>
+        ensures { result ≡ cited_in columns.now }
     {
-        for column in table.columns.as_slice() {
+        let mut names = CitedNames::none();
+        names.add_columns(columns);
+        names
+    }
+
+    /// Adds the names that some columns cite.
+    fn add_columns(&mut self, columns: &'a [Column])
+        ensures { (before : List (List ℕ)) → self.old ≡ take 64 before →
+            self.new ≡ take 64 (fold with_name before (names_in_columns columns.now)) }
+    {
+        for column in columns {
             self.add_column(column);
         }
     }
@@ -187,35 +197,41 @@ fn is_citable(names: &CitedNames<'_>, name: &Text) -> bool
 }
 
 /// Whether a column of this kind cites only names that can be cited and have a dictionary.
-pub(crate) fn is_supplied_kind(candidate: &Candidate<'_>, kind: &Kind) -> bool
-    ensures { result ≡ is_supplied_kind candidate.now kind.now }
+pub(crate) fn is_supplied_kind(
+    names: &CitedNames<'_>,
+    dictionaries: &Dictionaries,
+    kind: &Kind,
+) -> bool
+    ensures { result ≡ is_supplied_kind_by names.now dictionaries.now kind.now }
 {
     match kind {
-        Kind::List { file } => is_supplied(candidate, file),
-        _ => are_supplied(candidate, leaves_of(kind)),
+        Kind::List { file } => is_supplied(names, dictionaries, file),
+        _ => are_supplied(names, dictionaries, leaves_of(kind)),
     }
 }
 
 /// Whether some drawn values cite only such names.
-fn are_supplied(candidate: &Candidate<'_>, leaves: &[Leaf]) -> bool
-    ensures { result ≡ list_all (are_supplied candidate.now) leaves.now }
+fn are_supplied(names: &CitedNames<'_>, dictionaries: &Dictionaries, leaves: &[Leaf]) -> bool
+    ensures { result ≡ list_all (are_supplied_by names.now dictionaries.now) leaves.now }
 {
-    leaves.iter().all(|leaf| is_supplied_leaf(candidate, leaf))
+    leaves
+        .iter()
+        .all(|leaf| is_supplied_leaf(names, dictionaries, leaf))
 }
 
-fn is_supplied_leaf(candidate: &Candidate<'_>, leaf: &Leaf) -> bool
-    ensures { result ≡ are_supplied candidate.now leaf.now }
+fn is_supplied_leaf(names: &CitedNames<'_>, dictionaries: &Dictionaries, leaf: &Leaf) -> bool
+    ensures { result ≡ are_supplied_by names.now dictionaries.now leaf.now }
 {
     match leaf {
-        Leaf::Dict { file } | Leaf::Words { file, .. } => is_supplied(candidate, file),
+        Leaf::Dict { file } | Leaf::Words { file, .. } => is_supplied(names, dictionaries, file),
         _ => true,
     }
 }
 
-fn is_supplied(candidate: &Candidate<'_>, name: &Text) -> bool
-    ensures { result ≡ is_supplied candidate.now name.now }
+fn is_supplied(names: &CitedNames<'_>, dictionaries: &Dictionaries, name: &Text) -> bool
+    ensures { result ≡ is_supplied_by names.now dictionaries.now name.now }
 {
-    is_citable(candidate.names(), name) && candidate.dictionaries().has(name.as_str())
+    is_citable(names, name) && dictionaries.has(name.as_str())
 }
 
 /// Copies the names as texts. Refuses if memory is wanting.

@@ -7,6 +7,7 @@
 mod candidate;
 mod checker;
 mod cited_names;
+mod column_check;
 mod column_rules;
 mod later_date_rules;
 pub mod laws;
@@ -21,5 +22,7 @@ mod total_rules;
 mod unit_date_rules;
 
 pub use checker::{CheckFault, check, citations};
+pub use column_check::{are_columns_supplied, column_citations, keeps_column_rules};
 pub use leaf_rules::is_range;
+pub use lookup_rules::has_still_column;
 pub use names::is_name;

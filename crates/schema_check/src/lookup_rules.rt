@@ -42,7 +42,7 @@ fn is_looked_up(tables: &[Table], kind: &Kind, name: &Text) -> bool
 }
 
 /// Whether some columns have one of this name that doesn't move and is no lookup.
-fn has_still_column(columns: &[Column], name: &Text) -> bool
+pub fn has_still_column(columns: &[Column], name: &Text) -> bool
     ensures { result ≡ has_still_column columns.now name.now }
 {
     let place = place_of_column(columns, name);

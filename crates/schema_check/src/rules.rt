@@ -177,7 +177,10 @@ fn holds_of_column(rule: Rule, candidate: &Candidate<'_>, table: usize, column: 
     let columns = columns_at(schema, table);
     let leaves = leaves_of(&columns[column].kind);
     match rule {
-        Rule::Dictionaries => is_supplied_kind(candidate, &columns[column].kind),
+        Rule::Dictionaries => {
+            let dictionaries = candidate.dictionaries();
+            is_supplied_kind(candidate.names(), dictionaries, &columns[column].kind)
+        }
         Rule::CitedNames => is_citable_kind(candidate.names(), &columns[column].kind),
         Rule::Columns => is_new_column(columns, column),
         Rule::KeyColumn => is_key_first(column, &columns[column].kind),
@@ -240,7 +243,7 @@ fn is_table_named(tables: &[Table], name: &Text) -> bool
 }
 
 /// Whether the column at a place has a valid name that no column before it has.
-fn is_new_column(columns: &[Column], place: usize) -> bool
+pub(crate) fn is_new_column(columns: &[Column], place: usize) -> bool
     requires { place < length columns.now }
     ensures { result ≡ is_new_at (map (λ column. column.name) columns.now) place }
 {

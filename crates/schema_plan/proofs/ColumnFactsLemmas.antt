@@ -135,7 +135,7 @@ pub length-facts_of_columns : (units : ℕ) (tables : List TableLayout) (earlier
 length-facts_of_columns units tables earlier table =
     length-in_turn (λ before place. facts_of_kind units tables table earlier before (column_at table.columns place).kind) [] (range_with_len 0 64)
 
-length-column_facts : (layout : Layout) → length (column_facts layout) ≡ length layout.tables
+pub length-column_facts : (layout : Layout) → length (column_facts layout) ≡ length layout.tables
 unfolding column_facts
 length-column_facts layout = length-in_turn (facts_of_columns layout.units layout.tables) [] layout.tables
 

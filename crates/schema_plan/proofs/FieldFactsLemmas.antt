@@ -10,11 +10,11 @@ use Rattle.schema_plan.specs.declared.column_facts.ColumnFacts.{ColumnFacts}
 use Rattle.schema_plan.specs.declared.days.Days.{Days}
 use Rattle.schema_plan.specs.declared.numbers.Numbers.{Numbers}
 use Rattle.schema_plan.specs.ColumnFacts.{column_facts, column_facts_at, facts_of_kind, field_cost, field_facts}
-use Rattle.schema_plan.specs.Days.{days_after}
+use Rattle.schema_plan.specs.Days.{days_after, days_of_kind}
 use Rattle.schema_plan.specs.FactsBefore.{facts_among, facts_in, no_facts}
 use Rattle.schema_plan.specs.FieldCosts.{choice_cost_of, cost_among, cost_of_part}
 use Rattle.schema_plan.specs.Layout.{PartLayout, literal_part, cited_part, KindLayout, after_kind, lookup_kind, product_kind, sum_kind, template_kind, Layout, TableLayout, column_at, table_at}
-use Rattle.schema_plan.specs.Numbers.{most_decimals, operands, plus, product_of, start_from, sum_of, times, with_operand}
+use Rattle.schema_plan.specs.Numbers.{most_decimals, numbers_of_kind, operands, plus, product_of, start_from, sum_of, times, with_operand}
 use Rattle.schema_plan.proofs.ColumnFactsLemmas.{column_facts_at-is}
 use Rattle.schema_plan.proofs.Lists.{get_or-in_turn}
 use Rattle.schema_plan.proofs.NumberLemmas.{lost}
@@ -184,12 +184,23 @@ before_if columns column of test none found = by_place (nat_le column of) refl
         let nothing = facts_among-past columns column of (omega (arith, leb-true column of is)) in
         absurd (differ (sym found ∙ ap test nothing ∙ none))
 
+-- among the facts of some columns, those of the one at a place are of this kind
+pub record AreFactsOf (units : ℕ) (earlier : List (List ColumnFacts)) (facts : List ColumnFacts) (column : ℕ) (kind : KindLayout) : Type 0 where
+  pub days : (facts_among facts column).days ≡ days_of_kind units earlier (take column facts) kind
+  pub numbers : (facts_among facts column).numbers ≡ numbers_of_kind earlier (take column facts) kind
+
+pub are_field_facts : (layout : Layout) (table column : ℕ) (kind : KindLayout) → IsColumnOf layout table column kind →
+    AreFactsOf layout.units (take table (column_facts layout)) (column_facts_at layout table) column kind
+are_field_facts layout table column kind of =
+    let is = field_facts-kind layout table column kind of in
+    record { days = ap (λ (facts : ColumnFacts). facts.days) is; numbers = ap (λ (facts : ColumnFacts). facts.numbers) is }
+
 -- what a dated column follows stands before it
-pub after_is_later : (layout : Layout) (table column before : ℕ) (lo hi : ℤ) → IsColumnOf layout table column (after_kind before lo hi) → is_some (field_facts layout table column).days ≡ true → before < column
-after_is_later layout table column before lo hi of dated =
-    let days = (facts_among (take column (column_facts_at layout table)) before).days in
-    let is : is_some (option_and_then (days_after lo hi) days) ≡ true = sym (ap (λ (facts : ColumnFacts). is_some facts.days) (field_facts-kind layout table column (after_kind before lo hi) of)) ∙ dated in
-    before_if (column_facts_at layout table) column before (λ (facts : ColumnFacts). is_some facts.days) refl (first days lo hi is)
+pub follows_earlier : (units : ℕ) (earlier : List (List ColumnFacts)) (facts : List ColumnFacts) (column of : ℕ) (lo hi : ℤ) → AreFactsOf units earlier facts column (after_kind of lo hi) →
+    is_some (facts_among facts column).days ≡ true → of < column
+follows_earlier units earlier facts column of lo hi are dated =
+    let days = (facts_among (take column facts) of).days in
+    before_if facts column of (λ (one : ColumnFacts). is_some one.days) refl (first days lo hi (sym (ap is_some are.days) ∙ dated))
   where
     first : (days : Option Days) (lo hi : ℤ) → is_some (option_and_then (days_after lo hi) days) ≡ true → is_some days ≡ true
     first None lo hi h = h
@@ -235,16 +246,12 @@ places_before columns column of numeric = λ i d below.
     ∙ numeric i None (omega (arith, below, length-map of (λ place. (facts_among (take column columns) place).numbers))))
 
 -- the operands of a numeric sum, and of a numeric product, stand before it
-pub sum_is_later : (layout : Layout) (table column : ℕ) (of : List ℕ) → IsColumnOf layout table column (sum_kind of) → is_some (field_facts layout table column).numbers ≡ true → All (λ place. place < column) of
-sum_is_later layout table column of is numeric =
-    let before = column_facts_at layout table in
-    places_before before column of
-    (sum_numeric (operands (take column before) of) (field_facts layout table column).numbers
-    (ap (λ (facts : ColumnFacts). facts.numbers) (field_facts-kind layout table column (sum_kind of) is)) numeric)
+pub adds_earlier : (units : ℕ) (earlier : List (List ColumnFacts)) (facts : List ColumnFacts) (column : ℕ) (of : List ℕ) → AreFactsOf units earlier facts column (sum_kind of) →
+    is_some (facts_among facts column).numbers ≡ true → All (λ place. place < column) of
+adds_earlier units earlier facts column of are numeric =
+    places_before facts column of (sum_numeric (operands (take column facts) of) (facts_among facts column).numbers are.numbers numeric)
 
-pub product_is_later : (layout : Layout) (table column : ℕ) (of : List ℕ) → IsColumnOf layout table column (product_kind of) → is_some (field_facts layout table column).numbers ≡ true → All (λ place. place < column) of
-product_is_later layout table column of is numeric =
-    let before = column_facts_at layout table in
-    places_before before column of
-    (product_numeric (operands (take column before) of) (field_facts layout table column).numbers
-    (ap (λ (facts : ColumnFacts). facts.numbers) (field_facts-kind layout table column (product_kind of) is)) numeric)
+pub multiplies_earlier : (units : ℕ) (earlier : List (List ColumnFacts)) (facts : List ColumnFacts) (column : ℕ) (of : List ℕ) → AreFactsOf units earlier facts column (product_kind of) →
+    is_some (facts_among facts column).numbers ≡ true → All (λ place. place < column) of
+multiplies_earlier units earlier facts column of are numeric =
+    places_before facts column of (product_numeric (operands (take column facts) of) (facts_among facts column).numbers are.numbers numeric)

@@ -13,4 +13,5 @@ pub mod SpreadLemmas
 pub mod ReadyLemmas
 pub mod PlannedLemmas
 pub mod WordListLemmas
+pub mod BesideLemmas
 pub mod FieldSizeLemmas

@@ -1,5 +1,5 @@
 -- The dictionaries that a schema cites.
-use Rattle.std.specs.Prelude.{ℕ, Bool, ◌&&◌, nat_le, if◌then◌else◌, List, [], ◌∷◌, ◌++◌, flat_map, length, take}
+use Rattle.std.specs.Prelude.{ℕ, Bool, ◌&&◌, nat_le, if◌then◌else◌, List, [], ◌∷◌, ◌++◌, flat_map, length, take, Option, Some, None}
 use Rattle.std.specs.List.{fold, list_all, list_any}
 use Rattle.schema_model.specs.declared.table.Table.{Table}
 use Rattle.schema_model.specs.declared.column.Column.{Column}
@@ -62,3 +62,17 @@ may_cite_all names leaf = list_all (may_cite names) (names_in_leaf leaf)
 abbrev pub may_cite_of_kind : List (List ℕ) → Kind → Bool
 may_cite_of_kind names (kind.List file) = may_cite names file
 may_cite_of_kind names held = list_all (may_cite_all names) (leaves_of held)
+
+-- ---- of some columns alone
+
+-- the first 64 different dictionaries that some columns cite, in the order of their first citations
+unfoldable pub cited_in : List Column → List (List ℕ)
+cited_in columns = take 64 (different_names (names_in_columns columns))
+
+-- whether some columns cite only dictionaries that may be cited
+abbrev pub may_cite_in : List (List ℕ) → List Column → Bool
+may_cite_in names columns = list_all (λ (column : Column). may_cite_of_kind names column.kind) columns
+
+-- the different dictionaries that some columns cite; None where they cite one that may not be cited
+abbrev pub citable_in : List Column → Option (List (List ℕ))
+citable_in columns = if may_cite_in (cited_in columns) columns then Some (cited_in columns) else None

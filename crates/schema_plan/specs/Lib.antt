@@ -23,4 +23,5 @@ pub mod ReadyWords
 pub mod Ready
 pub mod Planned
 pub mod Capped
+pub mod Beside
 pub mod Worked

@@ -4,13 +4,15 @@ use Rattle.std.specs.Str.{chars}
 use Rattle.dictionaries.specs.WordList.{IsWordList}
 use Rattle.schema_model.specs.declared.column.Kind.{Kind}
 use Rattle.schema_model.specs.declared.column.Kind.TheVariants as kind
+use Rattle.schema_plan.specs.declared.column_facts.ColumnFacts.{ColumnFacts}
 use Rattle.schema_plan.specs.declared.layout.Span.{Span}
 use Rattle.schema_plan.specs.Citations.{leaves_of}
 use Rattle.cohort_sizes.specs.Births.{Births, born_count}
 use Rattle.cohort_sizes.specs.Rates.{AreRates}
-use Rattle.schema_plan.specs.ColumnFacts.{field_facts}
+use Rattle.schema_plan.specs.ColumnFacts.{column_facts_at}
 use Rattle.schema_plan.specs.Counts.{count}
 use Rattle.schema_plan.specs.Dictionaries.{Dictionary, Project, words_named}
+use Rattle.schema_plan.specs.FactsBefore.{facts_among}
 use Rattle.schema_plan.specs.Layout.{LeafLayout, int_leaf, fixed_leaf, date_leaf, pick_leaf, skew_leaf, dict_leaf, words_leaf, chars_leaf, uuid_leaf, PartLayout, literal_part, cited_part, KindLayout, key_kind, born_kind, changed_kind, leaf_kind, template_kind, case_kind, reference_kind, lookup_kind, ColumnLayout, column_at, Layout, TableLayout, layout_of, leaf_layout, table_at, list_kind, unit_date_kind, after_kind, sum_kind, product_kind}
 use Rattle.schema_plan.specs.References.{IsReferenceInLimits, IsSpread, Reference, reference_at, references_of}
 use Rattle.schema_plan.specs.TableFacts.{cost, max_line}
@@ -232,24 +234,34 @@ abbrev pub IsLookupInLimits : List TableLayout → List ColumnLayout → ℕ →
 IsLookupInLimits tables columns place (lookup_kind via parent column) = IsLookup tables columns place via parent column
 IsLookupInLimits tables columns place _ = ⊤
 
--- a date after that of a dated column that stands before it
-pub record IsLaterDate (layout : Layout) (table column of : ℕ) : Type 0 where
+-- by the facts of some columns, a date after that of a dated column that stands before it
+pub record IsLaterDateAmong (facts : List ColumnFacts) (column of : ℕ) : Type 0 where
   pub earlier : of < column
-  pub dated : is_some (field_facts layout table column).days ≡ true
+  pub dated : is_some (facts_among facts column).days ≡ true
 
 -- a sum or a product of numeric columns that stand before it
-pub record IsTotal (layout : Layout) (table column : ℕ) (of : List ℕ) : Type 0 where
+pub record IsTotalAmong (facts : List ColumnFacts) (column : ℕ) (of : List ℕ) : Type 0 where
   pub some_operand : 1 ≤ length of
   pub operand_limit : length of ≤ 8
   pub earlier : All (λ operand. operand < column) of
-  pub numeric : is_some (field_facts layout table column).numbers ≡ true
+  pub numeric : is_some (facts_among facts column).numbers ≡ true
 
--- the column at a place in the table at a place, where it is made of other columns' dates or numbers
+-- the column at a place, where it is made of other columns' dates or numbers
+abbrev pub IsOfOthersAmong : List ColumnFacts → ℕ → KindLayout → Type 0
+IsOfOthersAmong facts column (after_kind of lo hi) = IsLaterDateAmong facts column of
+IsOfOthersAmong facts column (sum_kind of) = IsTotalAmong facts column of
+IsOfOthersAmong facts column (product_kind of) = IsTotalAmong facts column of
+IsOfOthersAmong facts column _ = ⊤
+
+-- the same of the table at a place
+abbrev pub IsLaterDate : Layout → ℕ → ℕ → ℕ → Type 0
+IsLaterDate layout table column of = IsLaterDateAmong (column_facts_at layout table) column of
+
+abbrev pub IsTotal : Layout → ℕ → ℕ → List ℕ → Type 0
+IsTotal layout table column of = IsTotalAmong (column_facts_at layout table) column of
+
 abbrev pub IsOfOthersInLimits : Layout → ℕ → ℕ → KindLayout → Type 0
-IsOfOthersInLimits layout table column (after_kind of lo hi) = IsLaterDate layout table column of
-IsOfOthersInLimits layout table column (sum_kind of) = IsTotal layout table column of
-IsOfOthersInLimits layout table column (product_kind of) = IsTotal layout table column of
-IsOfOthersInLimits layout table column _ = ⊤
+IsOfOthersInLimits layout table column kind = IsOfOthersAmong (column_facts_at layout table) column kind
 
 -- a number of units that is at least one, from its least to its most
 pub record IsSpan (span : Span) : Type 0 where

@@ -19,6 +19,7 @@ use Rattle.schema_model.specs.declared.column.Part.TheVariants as part
 use Rattle.schema_model.specs.declared.column.Window.{Window}
 use Rattle.schema_model.specs.declared.column.Window.TheVariants as window
 use Rattle.schema_plan.specs.declared.broken.Broken.{Broken}
+use Rattle.schema_plan.specs.declared.column_facts.ColumnFacts.{ColumnFacts}
 use Rattle.schema_plan.specs.declared.days.Days.{Days}
 use Rattle.schema_plan.specs.declared.numbers.Numbers.{Numbers}
 use Rattle.cohort_sizes.specs.Births.{Births, born_count, cohort_size}
@@ -26,10 +27,10 @@ use Rattle.schema_plan.specs.declared.rules.Rule.{Rule}
 use Rattle.schema_plan.specs.declared.rules.Rule.TheVariants.{Dictionaries, CitedNames, SeedAndUnits, TableCount, TableNames, Columns, KeyColumn, RowCount, LifeRange, UpdatePeriod, NumberRange, DateRange, PickEntries, SkewRange, LengthRange, TemplateParts, CaseBranches, StillCitations, ReferenceTargets, ReferenceWindows, ParentRows, SpreadWeights, LookupColumns, RowCost, LineSize, ChangesAndNulls, UnitDates, LaterDates, Totals, PaddedParts}
 use Rattle.schema_plan.specs.declared.site.Site.{Site}
 use Rattle.schema_plan.specs.declared.site.Site.TheVariants.{Whole, OfTable, OfColumn}
-use Rattle.schema_plan.specs.Citations.{cited_names, leaves_of, may_cite, may_cite_of_kind, names_in_leaf}
+use Rattle.schema_plan.specs.Citations.{cited_in, cited_names, leaves_of, may_cite, may_cite_of_kind, names_in_leaf}
 use Rattle.schema_plan.specs.ColumnFacts.{field_facts}
 use Rattle.schema_plan.specs.Counts.{count}
-use Rattle.schema_plan.specs.Dictionaries.{Project, dictionary_named}
+use Rattle.schema_plan.specs.Dictionaries.{Dictionary, Project, dictionary_named}
 use Rattle.schema_plan.specs.Layout.{becomes_null, births_of, columns_of, layout_of, place_of_column, place_of_table, window_layout}
 use Rattle.schema_plan.specs.Lineage.{sure_life}
 use Rattle.schema_plan.specs.Names.{same_text, is_name}
@@ -168,19 +169,32 @@ is_each_leaf test schema table column = list_all test (leaves_of (kind_at (colum
 
 -- ---- what rules ask of dictionaries
 
--- a dictionary that may be cited, and is there
-abbrev pub is_supplied : Project → List ℕ → Bool
-is_supplied project name =
-    may_cite (cited_names project.schema.tables) name && is_some (dictionary_named project.dictionaries name)
+-- a dictionary that may be cited, and is one of some
+abbrev pub is_supplied_by : List (List ℕ) → List Dictionary → List ℕ → Bool
+is_supplied_by names dictionaries name = may_cite names name && is_some (dictionary_named dictionaries name)
 
 -- whether all dictionaries that a drawn value cites are so
-abbrev pub are_supplied : Project → Leaf → Bool
-are_supplied project leaf = list_all (is_supplied project) (names_in_leaf leaf)
+abbrev pub are_supplied_by : List (List ℕ) → List Dictionary → Leaf → Bool
+are_supplied_by names dictionaries leaf = list_all (is_supplied_by names dictionaries) (names_in_leaf leaf)
 
 -- whether all dictionaries that a column cites are so
+abbrev pub is_supplied_kind_by : List (List ℕ) → List Dictionary → Kind → Bool
+is_supplied_kind_by names dictionaries (kind.List file) = is_supplied_by names dictionaries file
+is_supplied_kind_by names dictionaries held = list_all (are_supplied_by names dictionaries) (leaves_of held)
+
+-- the same by what a schema may cite, and its dictionaries
+abbrev pub is_supplied : Project → List ℕ → Bool
+is_supplied project name = is_supplied_by (cited_names project.schema.tables) project.dictionaries name
+
+abbrev pub are_supplied : Project → Leaf → Bool
+are_supplied project leaf = are_supplied_by (cited_names project.schema.tables) project.dictionaries leaf
+
 abbrev pub is_supplied_kind : Project → Kind → Bool
-is_supplied_kind project (kind.List file) = is_supplied project file
-is_supplied_kind project held = list_all (are_supplied project) (leaves_of held)
+is_supplied_kind project held = is_supplied_kind_by (cited_names project.schema.tables) project.dictionaries held
+
+-- the same by what some columns may cite alone, of each of them
+abbrev pub are_columns_supplied : List Dictionary → List Column → Bool
+are_columns_supplied dictionaries columns = list_all (λ (column : Column). is_supplied_kind_by (cited_in columns) dictionaries column.kind) columns
 
 -- whether a schema may cite all that is cited at a site
 abbrev pub cites_well : Schema → Site → Bool
@@ -416,6 +430,25 @@ abbrev pub is_lookup : List Table → List Column → ℕ → Kind → Bool
 is_lookup tables columns place (kind.Lookup via column) =
     nat_lt (place_of_column columns via) place && is_looked_up tables (kind_at columns (place_of_column columns via)) column
 is_lookup tables columns place _ = true
+
+-- ---- what rules ask of a column of a table that stands beside a schema
+
+-- what is drawn for a kind is in its range
+abbrev pub are_in_range : Kind → Bool
+are_in_range kind =
+    list_all is_number_range (leaves_of kind) && list_all is_date_range (leaves_of kind) && list_all is_weighted (leaves_of kind)
+    && list_all is_skew_range (leaves_of kind) && list_all is_length_range (leaves_of kind)
+
+-- the column at a place, by its facts, keeps the rules on the names of columns, on drawn values, on changes and nulls, on dates after dates,
+-- and on sums and products
+abbrev pub keeps_column_rules : ColumnFacts → List Column → ℕ → Bool
+keeps_column_rules facts columns place =
+    is_new_at (map (λ (column : Column). column.name) columns) place
+    && are_in_range (kind_at columns place)
+    && is_null_share (kind_at columns place) (null_at columns place)
+    && is_change (kind_at columns place) (is_redrawn_at columns place)
+    && is_later_date facts.days columns place (kind_at columns place)
+    && is_total facts.numbers columns place (kind_at columns place)
 
 -- ---- the rules
 

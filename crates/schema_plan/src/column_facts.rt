@@ -70,7 +70,7 @@ pub(crate) fn facts_looked_up(before: &FactsBefore<'_>, via: &Text, column: &Tex
 }
 
 /// Returns the facts of the column at a place among some. Past the last one it returns `NO_COLUMN_FACTS`.
-pub(crate) fn facts_among(columns: &[ColumnFacts], place: usize) -> ColumnFacts
+pub fn facts_among(columns: &[ColumnFacts], place: usize) -> ColumnFacts
     ensures { result ≡ facts_among columns.now place }
 {
     if place < columns.len() {

@@ -115,7 +115,7 @@ fn sum_of_costs(columns: &[ColumnFacts]) -> u64
 }
 
 /// Returns the greatest length of a line of some columns: the sizes of the fields, and a byte after each.
-fn line_size(
+pub(crate) fn line_size(
     delimiter: u8,
     dictionaries: &Dictionaries,
     tables: &[Table],

@@ -6,6 +6,7 @@
 //! `schema_check` tries them.
 #![tactic(auto)]
 
+mod beside;
 mod births;
 mod broken;
 mod column_facts;
@@ -32,7 +33,7 @@ mod word_lists;
 
 pub use births::cohort_size;
 pub use broken::Broken;
-pub use column_facts::ColumnFacts;
+pub use column_facts::{ColumnFacts, facts_among};
 pub use counts::count;
 pub use days::Days;
 pub use facts::{NO_FACTS, TableFacts, fill_facts};

@@ -149,6 +149,13 @@ impl Plan {
         }
     }
 
+    /// Returns the dictionaries of the schema.
+    pub fn dictionaries(&self) -> &Dictionaries
+        ensures { result.now ≡ self.now.dictionaries }
+    {
+        &self.dictionaries
+    }
+
     /// Returns the first dictionary with a name, or None exactly if no dictionary has it.
     pub fn dictionary(&self, name: &str) -> Option<&Dictionary>
         ensures { option_copied result ≡ dictionary_named self.now.dictionaries name.now }
@@ -279,6 +286,13 @@ impl Plan {
         ensures { result ≡ reach (layout_of self.now) }
     {
         self.reach
+    }
+
+    /// Returns the facts of the tables, in order.
+    pub(crate) fn facts(&self) -> &[TableFacts]
+        ensures { result.now ≡ first_facts self.now }
+    {
+        self.facts.as_slice()
     }
 
     fn facts_of(&self, table: u32) -> &TableFacts

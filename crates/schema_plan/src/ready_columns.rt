@@ -49,7 +49,7 @@ pub(crate) fn ready_tables(
 }
 
 /// Makes ready the columns of a table, in order. Their kinds are within the limits.
-fn ready_columns(
+pub(crate) fn ready_columns(
     alloc: Global,
     lexicon: &Lexicon<'_>,
     tables: &[Table],

@@ -81,6 +81,20 @@ impl NamedWords {
         Ok(Arc::try_clone(&self.words)?)
     }
 
+    /// Returns another handle to the word list with its name. Refuses if memory is wanting.
+    fn handle(&self, alloc: Global) -> Result<NamedWords, Memory>
+        ensures { IfOk result (λ named. named ≡ self.now) }
+    {
+        let name = Text::of(alloc, self.name.as_str())?;
+        let words = self.shared()?;
+        Ok(NamedWords {
+            name,
+            words,
+            between_tabs: self.between_tabs,
+            between_bars: self.between_bars,
+        })
+    }
+
     /// Returns the size of the greatest entry as it is written, in bytes.
     fn entry_size(&self, delimiter: u8) -> u64
         ensures { result ≡ entry_size delimiter self.now.words }
@@ -129,9 +143,10 @@ impl Model for Dictionaries {
 }
 
 impl Dictionaries {
-    ghost use Rattle.std.specs.Prelude.{◌≡◌, ◌==◌, [], ◌∷◌, ◌++◌, OnErr, OnOk, find, is_some, length};
+    ghost use Rattle.std.specs.Prelude.{◌≡◌, ◌==◌, [], ◌∷◌, ◌++◌, IfOk, OnErr, OnOk, find, is_some, length};
     ghost use Rattle.std.specs.List.{position, position_or_len};
     ghost use Rattle.std.specs.Option.{option_copied};
+    ghost use Rattle.dictionaries.specs.WordList.{IsWordList};
     ghost use Rattle.schema_plan.specs.Dictionaries.{AreWordLists, dictionary_named, words_named};
     ghost use Rattle.schema_plan.specs.FieldSizes.{entry_size};
     ghost use Rattle.schema_plan.specs.Names.{same_text};
@@ -154,6 +169,38 @@ impl Dictionaries {
         let _limits = dictionary.len(); // it is a word list
         let named = NamedWords::new(self.alloc, name, dictionary)?;
         self.items.push(named)?;
+        Ok(())
+    }
+
+    /// Returns these dictionaries and then others. They share the word lists. Refuses if memory is wanting.
+    pub fn followed_by(&self, others: &Dictionaries) -> Result<Dictionaries, Memory>
+        ensures { IfOk result (λ all. all ≡ self.now ++ others.now) }
+    {
+        let mut all = Dictionaries::new(self.alloc);
+        all.append(self)?;
+        all.append(others)?;
+        Ok(all)
+    }
+
+    /// Appends others, which share their word lists. If memory is wanting, some of them are appended.
+    fn append(&mut self, others: &Dictionaries) -> Result<(), Memory>
+        ensures { OnOk result (self.new ≡ self.old ++ others.now) }
+    {
+        let _limits = others.len(); // each is a word list
+        let items = others.as_slice();
+        for named in items {
+            self.append_one(named)?;
+        }
+        Ok(())
+    }
+
+    /// Appends one more, which shares its word list.
+    fn append_one(&mut self, named: &NamedWords) -> Result<(), Memory>
+        requires { IsWordList named.now.words }
+        ensures { OnOk result (self.new ≡ self.old ++ named.now ∷ []) }
+    {
+        let handle = named.handle(self.alloc)?;
+        self.items.push(handle)?;
         Ok(())
     }
 

@@ -3,7 +3,7 @@ use Rattle.std.specs.Prelude.{ℕ, List, Bool, codes}
 use Rattle.std.specs.List.{list_any}
 use Rattle.schema_read.specs.Document.{same_bytes}
 use Rattle.schema_read.specs.declared.schema_key.SchemaKey.{SchemaKey}
-use Rattle.schema_read.specs.declared.schema_key.SchemaKey.TheVariants.{Seed, Units, Delimiter, Table, Name, Rows, Insert, Life, Update, Column, Kind, Changes, Null, Base, Scramble, Lo, Hi, Step, Decimals, Entries, Weights, Size, Power, File, Alphabet, Parts, On, Branches, Window, Spread, OnDelete, Via, Start, Width, Deal, Of, Other}
+use Rattle.schema_read.specs.declared.schema_key.SchemaKey.TheVariants.{Seed, Units, Delimiter, Table, Name, Rows, Insert, Life, Update, Column, Kind, Changes, Null, Base, Scramble, Lo, Hi, Step, Decimals, Entries, Weights, Size, Power, File, Alphabet, Parts, On, Branches, Window, Spread, OnDelete, Via, Start, Width, Deal, Of, Parent, Other}
 
 abbrev pub key_name : SchemaKey → List ℕ
 key_name Seed = codes "seed"
@@ -42,6 +42,7 @@ key_name Start = codes "start"
 key_name Width = codes "width"
 key_name Deal = codes "deal"
 key_name Of = codes "of"
+key_name Parent = codes "parent"
 key_name Other = codes ""
 
 -- a key of a table is one of these

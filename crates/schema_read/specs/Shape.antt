@@ -1,6 +1,6 @@
 -- The document of a schema: which keys stand where, of which types, and the schema that they give.
 -- Keys are tried in the order of these lists. The default of an optional key stands with the value that it gives, below.
-use Rattle.std.specs.Prelude.{ℕ, pos, List, [], ◌∷◌, map, false, Option, None}
+use Rattle.std.specs.Prelude.{ℕ, pos, List, [], ◌∷◌, map, Bool, false, Option, None, is_none}
 use Rattle.std.specs.Option.{option_or}
 use Rattle.toml.specs.Data.{Members, as_integer}
 use Rattle.schema_model.specs.declared.table.Schema.{Schema}
@@ -131,6 +131,10 @@ table_wrong i ms = option_or (first_wrong (table_place i) table_keys ms) (each_f
 
 abbrev pub first_wrong_key : Members → Option Wrong
 first_wrong_key ms = option_or (first_wrong top top_keys ms) (each_from table_wrong 1 (tables key.Table ms))
+
+-- a table has each of these keys right, and no others
+abbrev pub are_right : List Wanted → Members → Bool
+are_right ws ms = is_none (first_wrong top ws ms)
 
 -- ---- the schema that the keys give
 

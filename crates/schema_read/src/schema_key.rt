@@ -78,6 +78,8 @@ pub enum SchemaKey {
     Deal,
     /// `of`
     Of,
+    /// `parent`, which a detail table's document has.
+    Parent,
     /// A key that has no place where it stands.
     Other,
 }
@@ -124,6 +126,7 @@ impl SchemaKey {
             SchemaKey::Width => "width",
             SchemaKey::Deal => "deal",
             SchemaKey::Of => "of",
+            SchemaKey::Parent => "parent",
             SchemaKey::Other => "",
         }
     }

@@ -1,7 +1,8 @@
 //! The values under the keys of a table. A key that is missing, or whose value is of another type, has none.
 
 ghost use Rattle.std.specs.Prelude.{◌≡◌, IfOk};
-ghost use Rattle.toml.specs.Data.{as_bool, as_integer};
+ghost use Rattle.std.specs.Option.{option_copied};
+ghost use Rattle.toml.specs.Data.{as_bool, as_integer, as_str};
 ghost use Rattle.toml.specs.View.{table_view};
 ghost use Rattle.schema_read.specs.Document.{members_of_values};
 ghost use Rattle.schema_read.specs.Shape.{kind_of, leaf_of};
@@ -101,6 +102,13 @@ pub fn leaf_kind_at(branch: &Table) -> LeafName
         Some(value) => leaf_kind_of(value).unwrap_or(LeafName::Int),
         None => LeafName::Int,
     }
+}
+
+/// Returns the text under a key, or None if there is none.
+pub fn str_if_any(table: &Table, key: SchemaKey) -> Option<&str>
+    ensures { option_copied result ≡ value_under as_str key (table_view table.now) }
+{
+    member(table, key)?.as_str()
 }
 
 /// Copies the text under a key, or returns the empty text if there is none. Refuses if memory is wanting.

@@ -4,7 +4,7 @@ ghost use Rattle.std.specs.Prelude.{◌≡◌, ◌++◌, find, not};
 ghost use Rattle.std.specs.Option.{option_copied};
 ghost use Rattle.toml.specs.View.{table_view};
 ghost use Rattle.schema_read.specs.Document.{members_of_value, members_of_values};
-ghost use Rattle.schema_read.specs.Shape.{column_place, table_place, branch_wrong, branches_wrong, column_wrong, table_wrong, first_wrong_key};
+ghost use Rattle.schema_read.specs.Shape.{are_right, column_place, table_place, branch_wrong, branches_wrong, column_wrong, table_wrong, first_wrong_key};
 ghost use Rattle.schema_read.specs.Wanted.{is_right_in, first_of, further_key, first_wrong, each_from};
 
 use crate::fault::{Expected, Place, Wrong};
@@ -79,6 +79,13 @@ fn first_wrong(place: Place, members: &Table, common: &[Wanted], own: &[Wanted])
         Some(wrong) => Some(wrong),
         None => further_key(place, members, common, own),
     }
+}
+
+/// Whether a table has each of these keys right, and no others. The common keys come first, then those of its own kind.
+pub fn has_right_keys(members: &Table, common: &[Wanted], own: &[Wanted]) -> bool
+    ensures { result ≡ are_right (common.now ++ own.now) (table_view members.now) }
+{
+    first_wrong(Place::TOP, members, common, own).is_none()
 }
 
 /// Returns the first wrong key of a branch.
