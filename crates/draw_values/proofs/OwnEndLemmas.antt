@@ -71,7 +71,7 @@ days_between-range lo hi range =
     from_first a b p q = omega (arith, ints, p, q)
 
 -- of a drawn value
-leaf_day-within : (leaf : LeafLayout) (draw : Draws) (days : Option Days) → days ≡ days_of_leaf leaf → IsLeafInLimits leaf → IfSome (leaf_day leaf draw) (IsDayOf days)
+pub leaf_day-within : (leaf : LeafLayout) (draw : Draws) (days : Option Days) → days ≡ days_of_leaf leaf → IsLeafInLimits leaf → IfSome (leaf_day leaf draw) (IsDayOf days)
 leaf_day-within (date_leaf lo hi) draw days is range =
     subst (λ (d : Option Days). IsDayOf d (chosen lo hi 1 (draw 1))) (sym (is ∙ days_between-range lo hi range)) (chosen-between lo hi 1 (draw 1) range.ordered)
 leaf_day-within (int_leaf lo hi step) draw days is range = tt
@@ -133,7 +133,7 @@ positive : (weights : List ℕ) → All (λ weight. 1 ≤ weight) weights → 1 
 positive [] each some = absurd (omega (arith, some))
 positive (weight ∷ others) each some = omega (arith, sum-cons weight others, each 0 0 (omega arith))
 
-leaf_number-within : (leaf : LeafLayout) (draw : Draws) (numbers : Option Numbers) → numbers ≡ numbers_of_leaf leaf → IsLeafInLimits leaf → IfSome (leaf_number leaf draw) (IsNumberOf numbers)
+pub leaf_number-within : (leaf : LeafLayout) (draw : Draws) (numbers : Option Numbers) → numbers ≡ numbers_of_leaf leaf → IsLeafInLimits leaf → IfSome (leaf_number leaf draw) (IsNumberOf numbers)
 leaf_number-within (int_leaf lo hi step) draw numbers is range = held numbers 0 lo hi (chosen lo hi step (draw 1)) is (chosen-between lo hi step (draw 1) range.0.ordered)
 leaf_number-within (fixed_leaf lo hi decimals) draw numbers is range = held numbers decimals lo hi (chosen lo hi 1 (draw 1)) is (chosen-between lo hi 1 (draw 1) range.0.ordered)
 leaf_number-within (skew_leaf lo size power) draw numbers is skew =

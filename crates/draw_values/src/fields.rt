@@ -23,7 +23,7 @@ pub(crate) const NULL_DRAW: u32 = 0;
 /// Whether a row's field is null, in a column with `null` null fields in a thousand. `seed` is the column's at the row's unit. A
 /// column that is never null draws nothing.
 #[inline(always)]
-pub(crate) fn is_null(null: u64, seed: u64, ordinal: u64) -> bool
+pub fn is_null(null: u64, seed: u64, ordinal: u64) -> bool
     ensures { result ≡ is_null null (row_draws seed ordinal) }
 {
     null > 0 && draw(row_seed(seed, ordinal), NULL_DRAW) % 1000 < null

@@ -56,7 +56,7 @@ pub(crate) fn own_number(kind: &ReadyKind, seed: u64, ordinal: u64) -> Option<Nu
 
 /// Returns by how many days a row's date follows another one, as it is drawn. `seed` is the column's at the row's unit.
 #[inline(always)]
-pub(crate) fn days_after(after: &ReadyAfter, seed: u64, ordinal: u64) -> i64
+pub fn days_after(after: &ReadyAfter, seed: u64, ordinal: u64) -> i64
     requires range { IsAfterRange after.now.lo after.now.hi }
     requires choices { after.now.choices ≡ choices after.now.lo after.now.hi 1 }
     ensures exact { result ≡ chosen after.now.lo after.now.hi 1 (row_draws seed ordinal 1) }
@@ -87,22 +87,26 @@ pub fn leaf_number(leaf: &ReadyLeaf, seed: u64) -> Option<Number>
     requires { IsReady leaf.now }
     ensures { result ≡ ready_leaf_number leaf.now (draw_of seed) }
 {
-    let draw = draw(seed, FIRST_DRAW);
     let (value, decimals) = match leaf {
         ReadyLeaf::Int {
             lo,
             hi,
             step,
             choices,
-        } => (chosen(*lo, *hi, *step, choices, draw), 0),
+        } => (chosen(*lo, *hi, *step, choices, draw(seed, FIRST_DRAW)), 0),
         ReadyLeaf::Fixed {
             lo,
             hi,
             choices,
             decimals,
             ..
-        } => (chosen(*lo, *hi, 1, choices, draw), *decimals),
-        ReadyLeaf::Skew { lo, weights, total } => (skewed(*lo, weights, total, draw), 0),
+        } => (
+            chosen(*lo, *hi, 1, choices, draw(seed, FIRST_DRAW)),
+            *decimals,
+        ),
+        ReadyLeaf::Skew { lo, weights, total } => {
+            (skewed(*lo, weights, total, draw(seed, FIRST_DRAW)), 0)
+        }
         _ => return None,
     };
     Some(Number { value, decimals })

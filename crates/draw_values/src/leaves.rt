@@ -20,7 +20,7 @@ pub(crate) const FIRST_DRAW: u32 = 1;
 
 /// Appends the value that is drawn with the seed of a row, as it is written. Its greatest size must be free.
 #[inline(always)]
-pub(crate) fn put_leaf(leaf: &ReadyLeaf, seed: u64, buf: &mut PageBuf)
+pub fn put_leaf(leaf: &ReadyLeaf, seed: u64, buf: &mut PageBuf)
     requires ready { IsReady leaf.now }
     requires room { length buf.old.text + ready_size leaf.now ≤ buf.old.room }
     ensures text { buf.new ≡ record buf.old { text = buf.old.text ++ ready_text leaf.now (draw_of seed) } }

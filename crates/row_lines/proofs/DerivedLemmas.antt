@@ -57,7 +57,8 @@ use Rattle.row_lines.proofs.LookupLemmas.{looks_up_earlier, looks_up_still, pare
 use Rattle.row_lines.proofs.PartLemmas.{cited_for-held}
 use Rattle.row_lines.proofs.ReferenceFieldLemmas.{parent_of_row-by, parents-held_parent, reference_here}
 use Rattle.row_lines.proofs.StillLemmas.{still_day, still_number}
-use Rattle.row_lines.proofs.TotalLemmas.{joins-few, numbers_at}
+use Rattle.row_lines.proofs.OperandLemmas.{joins-few}
+use Rattle.row_lines.proofs.TotalLemmas.{numbers_at}
 
 -- ---- kinds, as they are ready
 
@@ -209,7 +210,7 @@ after_ready lines columns first known column found after within at held =
     (after_here lines known.sound known.table known.limits column after.of after.lo after.hi within parts.0, parts.1)
 
 -- its day is one of those that its facts tell
-after-within : (found later : Option Days) (lo hi day by : ℤ) → later ≡ option_and_then (days_after lo hi) found → is_some later ≡ true → IsDayOf found day → IsBetween lo hi by →
+pub after-within : (found later : Option Days) (lo hi day by : ℤ) → later ≡ option_and_then (days_after lo hi) found → is_some later ≡ true → IsDayOf found day → IsBetween lo hi by →
     IsDayOf later (day +ℤ by) × IsInCalendar (day +ℤ by)
 after-within None later lo hi day by is some shown between = absurd shown
 after-within (Some days) None lo hi day by is some shown between = absurd (cc)
@@ -235,7 +236,7 @@ pub fits_calendar : (day : ℤ) → IsInCalendar day → to_z w64 (of_z w64 day)
 fits_calendar day calendar = back day (omega (arith, ints, calendar.from, calendar.to))
 
 -- which are in the calendar
-in_calendar : (found later : Option Days) (lo hi day : ℤ) → later ≡ option_and_then (days_after lo hi) found → IsDayOf later day → IsInCalendar day
+pub in_calendar : (found later : Option Days) (lo hi day : ℤ) → later ≡ option_and_then (days_after lo hi) found → IsDayOf later day → IsInCalendar day
 in_calendar found None lo hi day is shown = absurd shown
 in_calendar None (Some later) lo hi day is shown = absurd (cc)
 in_calendar (Some days) (Some later) lo hi day is shown =
@@ -252,7 +253,7 @@ day-calendar lines column before lo hi day here shown =
 
 -- ---- a sum or a product
 
-fold-few : (way : Join) (of : List (Option Numbers)) (start total : Numbers) → start.decimals ≤ 9 → fold (with_facts (join_of_facts way)) (Some start) of ≡ Some total → total.decimals ≤ 9
+pub fold-few : (way : Join) (of : List (Option Numbers)) (start total : Numbers) → start.decimals ≤ 9 → fold (with_facts (join_of_facts way)) (Some start) of ≡ Some total → total.decimals ≤ 9
 fold-few way [] start total few h = omega (arith, few, ap (λ (o : Option Numbers). (unwrap_or o start).decimals) h)
 fold-few way (None ∷ of) start total few h = absurd (none (sym (gone of) ∙ h))
   where
@@ -276,7 +277,7 @@ fold-few way (Some operand ∷ of) start total few h = of_next (λ next small. f
     of_next rest None is h = absurd (none (sym (gone of) ∙ h))
     of_next rest (Some next) is h = rest next (joins-few way start operand next is) h
 
-sum-few : (of : List (Option Numbers)) (total : Numbers) → facts_sum of ≡ Some total → total.decimals ≤ 9
+pub sum-few : (of : List (Option Numbers)) (total : Numbers) → facts_sum of ≡ Some total → total.decimals ≤ 9
 sum-few of total h = by_test (nat_le (most_decimals of) 9) refl h
   where
     whole : Option Numbers
@@ -286,7 +287,7 @@ sum-few of total h = by_test (nat_le (most_decimals of) 9) refl h
     by_test true few h = fold-few join.Sum of (start_from (most_decimals of) (pos 0)) total (leb-true (most_decimals of) 9 few) h
     by_test false few h = absurd (cc)
 
-some_of : {A : Type 0} (o : Option A) → is_some o ≡ true → (x : A) × (o ≡ Some x)
+pub some_of : {A : Type 0} (o : Option A) → is_some o ≡ true → (x : A) × (o ≡ Some x)
 some_of None h = absurd (cc)
 some_of (Some x) h = (x, refl)
 

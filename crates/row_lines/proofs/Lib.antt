@@ -9,12 +9,14 @@ pub mod CohortFieldLemmas
 pub mod PaddedLemmas
 pub mod PartLemmas
 mod StillLemmas
-mod TotalLemmas
+pub mod OperandLemmas
+pub mod TotalLemmas
 mod LookupLemmas
-mod DerivedLemmas
-mod RowFormLemmas
+pub mod DerivedLemmas
+pub mod RowFormLemmas
 mod RestedLemmas
 mod LookedUpLemmas
+mod StillRowLemmas
 pub mod RestedLineLemmas
 mod ReportLemmas
 mod KeptLemmas

@@ -57,7 +57,7 @@ module _ (plan : Project) (limits : IsInLimits plan) (place : ℕ) (below : plac
   abbrev formed : ℕ → ℕ → List (Option ℕ) → Row
   formed at changed parents = record { ordinal = ordinal; born = at; changed = changed; left = row.left; wait = row.wait; parents = parents }
 
-  by_form : {A : Type 0} (f : Row → A) → f (formed later.born later.changed later.parents) ≡ f row
+  pub by_form : {A : Type 0} (f : Row → A) → f (formed later.born later.changed later.parents) ≡ f row
   by_form f =
       ap (λ (at : ℕ). f (formed at later.changed later.parents)) same_birth
       ∙ ap (λ (changed : ℕ). f (formed row.born changed later.parents)) same_changed

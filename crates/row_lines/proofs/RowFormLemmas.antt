@@ -32,7 +32,7 @@ module _ (generator : Generator) (place : ℕ) (row : Row) (left wait : Option �
   day-by day same column (sum_kind of) = refl
   day-by day same column (product_kind of) = refl
 
-  day-form : (n column : ℕ) → day_in n generator place other column ≡ day_in n generator place row column
+  pub day-form : (n column : ℕ) → day_in n generator place other column ≡ day_in n generator place row column
   unfolding day_in
   day-form zero column = refl
   day-form (suc n) column =
@@ -59,7 +59,7 @@ module _ (generator : Generator) (place : ℕ) (row : Row) (left wait : Option �
   number-by number same column (unit_date_kind changed start step) = refl
   number-by number same column (after_kind of lo hi) = refl
 
-  number-form : (n column : ℕ) → number_in n generator place other column ≡ number_in n generator place row column
+  pub number-form : (n column : ℕ) → number_in n generator place other column ≡ number_in n generator place row column
   unfolding number_in
   number-form zero column = refl
   number-form (suc n) column =

@@ -53,7 +53,8 @@ use Rattle.row_lines.proofs.PartLemmas.{cited_for-held, size_for-cited}
 use Rattle.row_lines.proofs.RowOfRunLemmas.{IsRowOf, of_unit, row_of_run}
 use Rattle.row_lines.proofs.RunFieldLemmas.{lines_of}
 use Rattle.row_lines.proofs.RunValueLemmas.{never_null, row-seen}
-use Rattle.row_lines.proofs.TotalLemmas.{IsSoFar, numbers_at, so_far-all, so_far-more, so_far-none, sum-is}
+use Rattle.row_lines.proofs.OperandLemmas.{sum-is}
+use Rattle.row_lines.proofs.TotalLemmas.{IsSoFar, numbers_at, so_far-all, so_far-more, so_far-none}
 
 -- ---- numbers of 64 bits
 

@@ -231,3 +231,17 @@ pub still_field-changed : (generator : Generator) (place : ℕ) (row : Row) (cha
     field_in_table generator place (record row { changed = changed }) column ≡ field_in_table generator place row column
 still_field-changed generator place row changed units limits lookups =
     still_field generator place row (record row { changed = changed }) units limits lookups refl refl (λ column reference is cascades. refl)
+
+pub still_day-changed : (generator : Generator) (place : ℕ) (row : Row) (changed units : ℕ) →
+    IsTableInLimits units (table_at generator.tables place) → AreLookupsInLimits generator place →
+    (n column : ℕ) → moves (column_at (table_at generator.tables place).columns column) ≡ false →
+    day_in n generator place (record row { changed = changed }) column ≡ day_in n generator place row column
+still_day-changed generator place row changed units limits lookups =
+    still_day generator place row (record row { changed = changed }) units limits lookups refl refl (λ column reference is cascades. refl)
+
+pub still_number-changed : (generator : Generator) (place : ℕ) (row : Row) (changed units : ℕ) →
+    IsTableInLimits units (table_at generator.tables place) → AreLookupsInLimits generator place →
+    (n column : ℕ) → moves (column_at (table_at generator.tables place).columns column) ≡ false →
+    number_in n generator place (record row { changed = changed }) column ≡ number_in n generator place row column
+still_number-changed generator place row changed units limits lookups =
+    still_number generator place row (record row { changed = changed }) units limits lookups refl refl (λ column reference is cascades. refl)

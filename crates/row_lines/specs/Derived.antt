@@ -46,6 +46,10 @@ day_in (suc n) generator place row column =
     unless_null (column_at (table_at generator.tables place).columns column).null (draws_of generator place row column)
     (day_by (day_in n generator) generator place row column (column_at (table_at generator.tables place).columns column).kind)
 
+-- what it shows in a column of its own, however far that has to be looked for
+abbrev pub day_shown : Generator → ℕ → Row → ℕ → Option ℤ
+day_shown generator place row column = day_in (suc (columns_before place column)) generator place row column
+
 -- the day that a column of this kind shows, where that isn't null by its own draw
 abbrev pub day_of_kind : Generator → ℕ → Row → ℕ → KindLayout → Option ℤ
 day_of_kind generator place row column kind =
@@ -94,6 +98,10 @@ number_in zero generator place row column = None
 number_in (suc n) generator place row column =
     unless_null (column_at (table_at generator.tables place).columns column).null (draws_of generator place row column)
     (number_by (number_in n generator) generator place row column (column_at (table_at generator.tables place).columns column).kind)
+
+-- what it holds in a column of its own
+abbrev pub number_shown : Generator → ℕ → Row → ℕ → Option Number
+number_shown generator place row column = number_in (suc (columns_before place column)) generator place row column
 
 -- the number that a column of this kind holds, where that isn't null by its own draw
 abbrev pub number_of_kind : Generator → ℕ → Row → ℕ → KindLayout → Option Number

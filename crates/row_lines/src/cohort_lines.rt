@@ -21,8 +21,9 @@ ghost use Rattle.row_lines.specs.Totals.{IsDated, is_total, total_text};
 
 use crate::bytes::{byte_behind, null_piece};
 use crate::cohort_fields::CohortFields;
+use crate::still_row::StillRow;
 use draw_values::{CohortValues, Number, day_piece};
-use life_intervals::{Rows, birth, cohort};
+use life_intervals::{Rows, birth};
 use line_pages::{PageBuf, Piece};
 use row_text::put_null;
 use schema_plan::{ReadyColumn, ReadyKind, ReadyLookup};
@@ -324,13 +325,9 @@ impl<'a> CohortLines<'a> {
         ensures steps { steps.new ≤ steps.old + field_cost (layout_of self.now.plan) lookup.now.parent lookup.now.column }
     {
         let table = lookup.parent;
-        let plan = self.rows.plan();
-        let _limits = plan.table(table); // a table has at most 2^40 rows
-        let born = birth(plan, table, parent);
-        let values = CohortValues::new(plan, table, born, born);
-        let fields = CohortFields::new(self.rows, table, born, self.unit);
-        let index = parent - cohort(plan, table, born).first;
-        fields.put(lookup.column as usize, index, None, &values, buf, steps);
+        let born = birth(self.rows.plan(), table, parent);
+        let row = StillRow::new(self.rows, table, parent, born, self.unit);
+        row.put(lookup.column as usize, buf, steps);
     }
 }
 

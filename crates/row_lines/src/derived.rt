@@ -27,7 +27,7 @@ use step_count::Steps;
 
 /// How the operands of a total are joined.
 #[derive(Clone, Copy, Debug, PartialEq, Eq)]
-pub(crate) enum Join {
+pub enum Join {
     /// They are added.
     Sum,
     /// They are multiplied.
@@ -182,14 +182,8 @@ impl<'a> CohortFields<'a> {
         ensures { result ≡ start_of join (digits_for self.now of.now) }
     {
         match join {
-            Join::Sum => Number {
-                value: 0,
-                decimals: self.decimals(column),
-            },
-            Join::Product => Number {
-                value: 1,
-                decimals: 0,
-            },
+            Join::Sum => start_of(join, self.decimals(column)),
+            Join::Product => start_of(join, 0),
         }
     }
 
@@ -263,9 +257,26 @@ impl<'a> CohortFields<'a> {
     }
 }
 
+/// Returns the number from which the operands of a total are joined. `digits` is the most digits after the point of any operand, which a sum
+/// has too.
+pub fn start_of(join: Join, digits: u32) -> Number
+    ensures { result ≡ start_of join digits }
+{
+    match join {
+        Join::Sum => Number {
+            value: 0,
+            decimals: digits,
+        },
+        Join::Product => Number {
+            value: 1,
+            decimals: 0,
+        },
+    }
+}
+
 /// Joins a total so far with one more operand. What it comes to must have at most 9 digits after the point, and it and the operand, with
 /// the digits of a sum, must be in the range from -(2^63 - 1) to 2^63 - 1.
-fn joined(join: Join, so_far: Number, operand: Number) -> Number
+pub fn joined(join: Join, so_far: Number, operand: Number) -> Number
     requires decimals { (join_of join so_far operand).decimals ≤ 9 }
     requires operand { IsInRange (joined_operand join so_far operand) }
     requires total { IsInRange (join_of join so_far operand).value }

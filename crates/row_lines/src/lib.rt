@@ -24,9 +24,11 @@ mod run_parents;
 mod run_totals;
 mod runs;
 mod spare;
+mod still_row;
 mod table_lines;
 
 pub use cohort_lines::CohortLines;
+pub use derived::{Join, joined, start_of};
 pub use kept::{keep, put_range};
 pub use reports::row_report;
 pub use rows::{live, put_key, put_line};
@@ -34,4 +36,5 @@ pub use run_buf::RunBuf;
 pub use run_keys::{KEY_LINE, put_keys};
 pub use runs::RunLines;
 pub use spare::SpareBufs;
+pub use still_row::StillRow;
 pub use table_lines::TableLines;

@@ -26,7 +26,8 @@ use Rattle.row_lines.proofs.CohortFieldLemmas.{AreFieldsOf-view, column_here, re
 use Rattle.row_lines.proofs.DerivedLemmas.{number-drawn, number-null, number_by-own, own_number-values, parent-number, parent_before, product_from_ready, product_here, shown_within, sum_from_ready, sum_here}
 use Rattle.row_lines.proofs.LookupLemmas.{cost_of_lookup, kind_of_lookup, looks_up_earlier, looks_up_still}
 use Rattle.row_lines.proofs.PartLemmas.{null-drawn}
-use Rattle.row_lines.proofs.TotalLemmas.{IsNext, IsSoFar, so_far-all, so_far-lost, so_far-more, sum-is}
+use Rattle.row_lines.proofs.OperandLemmas.{sum-is}
+use Rattle.row_lines.proofs.TotalLemmas.{IsNext, IsSoFar, so_far-all, so_far-lost, so_far-more}
 use Rattle.row_lines.proofs.cohort_fields.CohortFields.+numbers.Goals as goal
 
 -- whether the field is null, as the row has it

@@ -17,5 +17,7 @@ returns-in-Sum c =
     let told : c.decimals.result ≡ c.requires.numbers.decimals =
     subst (λ (found : Option Numbers). IfSome found (λ (numbers : Numbers). c.decimals.result ≡ numbers.decimals)) c.requires.facts_are c.decimals.ensures in
     let joined = subst (λ (way : Join). fold (with_operand (join_of_facts way)) (Some (start_of_facts way digits)) (facts_for lines c.args.of.now) ≡ Some c.requires.numbers) c.in-Sum.is c.requires.joined in
-    ap (λ (d : ℕ). start_of join.Sum d) (told ∙ added-digits (facts_for lines c.args.of.now) (start_from digits (pos 0)) c.requires.numbers joined)
+    c.start_of.ensures
+    ∙ ap (λ (way : Join). start_of way c.decimals.result) c.in-Sum.is
+    ∙ ap (λ (d : ℕ). start_of join.Sum d) (told ∙ added-digits (facts_for lines c.args.of.now) (start_from digits (pos 0)) c.requires.numbers joined)
     ∙ ap (λ (way : Join). start_of way digits) (sym c.in-Sum.is)
