@@ -1,3 +1,5 @@
 mod NumberedRowLemmas
+mod LineFormLemmas
+mod LineCountLemmas
 pub mod ApplyLawLemmas
 mod NameLemmas

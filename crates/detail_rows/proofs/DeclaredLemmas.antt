@@ -3,6 +3,7 @@ use Rattle.std.proofs.Common.{◌≡◌, ℕ, ◌+◌, ◌-◌, ◌<◌, ◌≤�
 use Rattle.std.specs.Prelude.{unwrap_or}
 use Rattle.std.proofs.lemmas.Bool.{cases_lt, le-ltb, true≢false}
 use Rattle.std.proofs.lemmas.Nat.{mod_below}
+use Rattle.philox_seeds.specs.SeedTree.{field_draw}
 use Rattle.row_text.specs.Fields.{IsDelimiter}
 use Rattle.schema_model.specs.declared.table.Delimiter.{Delimiter}
 use Rattle.schema_model.specs.declared.table.Delimiter.TheVariants.{Bar, Tab}
@@ -12,10 +13,10 @@ use Rattle.schema_plan.specs.Delimiters.{delimiter_byte}
 use Rattle.schema_plan.specs.Layout.{layout_of}
 use Rattle.life_intervals.specs.Rows.{Row}
 use Rattle.detail_plan.specs.Limits.{IsInLimits}
-use Rattle.detail_plan.specs.Rules.{KeepsRules}
+use Rattle.detail_plan.specs.Kept.{Kept, KeepsRules}
 use Rattle.detail_plan.specs.declared.detail.Detail.{Detail}
-use Rattle.detail_plan.proofs.Accepted.{keeps_each, limits_of}
-use Rattle.detail_rows.specs.Lines.{count_column, detail_draw, line_count, parent_place}
+use Rattle.detail_plan.proofs.Accepted.{keeps_each}
+use Rattle.detail_rows.specs.Lines.{count_column, layout_beside, line_count, parent_place}
 
 -- a place that is found is there
 found-below : (place size : ℕ) (test : Bool) → nat_lt place size ≡ test → is_some (cond test (Some place) None) ≡ true → unwrap_or (cond test (Some place) None) 0 < size
@@ -26,14 +27,15 @@ found-below place size true test found = elim (cases_lt place size) [
 found-below place size false test found = absurd (true≢false (sym found))
 
 -- the parent is a table of the schema
-pub parent-below : (plan : Project) (detail : Detail) → KeepsRules plan detail → parent_place plan detail < length plan.schema.tables
-parent-below plan detail keeps = found-below _ (length plan.schema.tables) _ refl (keeps_each plan detail keeps.keeps).parent
+pub parent-below : (plan : Project) (kept : Kept) → KeepsRules plan kept → parent_place plan kept.detail < length plan.schema.tables
+parent-below plan kept keeps = found-below _ (length plan.schema.tables) _ refl (keeps_each plan kept.lists kept.detail keeps.keeps).parent
 
 -- a row has at most 64 lines
-pub few-lines : (plan : Project) (detail : Detail) → KeepsRules plan detail → (row : Row) → line_count detail row ≤ 64
-few-lines plan detail keeps row =
-    let limits : IsInLimits detail = limits_of plan detail keeps.keeps in
-    omega (arith, limits.ordered, limits.few_lines, mod_below (detail_draw detail count_column row.born row.ordinal) (count detail.hi - count detail.lo + 1) (omega arith))
+pub few-lines : (plan : Project) (kept : Kept) → IsInLimits kept.lists kept.detail → (row : Row) → line_count (layout_beside plan kept) row ≤ 64
+few-lines plan kept limits row =
+    let detail : Detail = kept.detail in
+    let draw : ℕ = field_draw (count detail.seed) 0 count_column row.born row.ordinal 1 in
+    omega (arith, limits.ordered, limits.few_lines, mod_below draw (count detail.hi - count detail.lo + 1) (omega arith))
 
 -- a schema's fields stand between tabs or bars
 pub delimits : (plan : Project) → IsDelimiter (layout_of plan).delimiter

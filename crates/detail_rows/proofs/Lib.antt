@@ -1,6 +1,11 @@
 pub mod PackageLemmas
-pub mod ReadyLemmas
 pub mod TextLemmas
 pub mod LineLemmas
 pub mod ParentLemmas
 pub mod DeclaredLemmas
+pub mod ValueLemmas
+pub mod ColumnLemmas
+pub mod WordListLemmas
+pub mod ShownLemmas
+pub mod LineSizeLemmas
+pub mod LineValueLemmas

@@ -1,119 +1,99 @@
 -- The lines of rows of the parent, by their ordinals.
-use Rattle.std.proofs.Common.{◌≡◌, ◌<◌, ◌≤◌, ℕ, ◌+◌, Bool, List, [], ◌∷◌, ◌++◌, filter, flat_map, get_or, if◌then◌else◌, length, map, take, drop, refl, ap, arith, sym, ◌∙◌}
+use Rattle.std.proofs.Common.{◌≡◌, ◌<◌, ◌≤◌, ℕ, ◌+◌, ◌^◌, arith, Bool, List, [], ◌∷◌, ◌++◌, filter, flat_map, get_or, if◌then◌else◌, length, map, take, drop, refl, ap, sym, ◌∙◌}
 use Rattle.std.specs.List.{range_with_len}
 use Rattle.std.proofs.Math.Seq.{take-add}
 use Rattle.std.proofs.lemmas.List.Concat.{flat_map-append}
 use Rattle.std.proofs.lemmas.List.Folds.{flat_map-map}
 use Rattle.std.proofs.lemmas.List.FromFn.{fill_by_all}
-use Rattle.cohort_sizes.specs.Births.{Births, LiesIn, birth}
-use Rattle.cohort_sizes.proofs.CohortLemmas.{birth-only}
+use Rattle.cohort_sizes.specs.Births.{Births, birth, born_count}
+use Rattle.cohort_sizes.proofs.CohortLemmas.{birth-only, born_count-le}
+use Rattle.philox_seeds.specs.SeedTree.{field_draw}
+use Rattle.schema_plan.specs.Counts.{count}
+use Rattle.schema_plan.specs.Limits.{IsInLimits as IsPlanInLimits}
+use Rattle.life_intervals.proofs.CohortParentLemmas.{row_limit}
 use Rattle.schema_plan.specs.Dictionaries.{Project}
-use Rattle.schema_plan.specs.Layout.{layout_of}
 use Rattle.life_intervals.specs.Generator.{Generator, generator_of, last_unit, table_of}
-use Rattle.life_intervals.specs.Intervals.{change_unit, is_live, row_at}
+use Rattle.life_intervals.specs.Intervals.{is_live, row_at}
 use Rattle.life_intervals.specs.Keys.{key_of}
-use Rattle.life_intervals.specs.Rows.{Row}
-use Rattle.life_intervals.specs.Runs.{IsRun}
 use Rattle.life_intervals.proofs.AcceptedLemmas.{place-below, row_at-changed}
 use Rattle.life_intervals.proofs.Ranges.{range_with_len-add}
 use Rattle.row_lines.specs.Kept.{kept_by}
+use Rattle.row_lines.specs.RowViews.{at_row}
 use Rattle.row_lines.proofs.LineLemmas.{key_of-by}
 use Rattle.row_lines.proofs.ListLemmas.{flat_map-filter_append}
-use Rattle.detail_rows.proofs.PackageLemmas.{flat_map-range_same}
-use Rattle.detail_plan.specs.declared.detail.Detail.{Detail}
+use Rattle.detail_plan.specs.Kept.{Kept}
 use Rattle.detail_rows.specs.declared.detail_lines.LineKind.{LineKind}
-use Rattle.detail_rows.specs.declared.detail_lines.LineKind.TheVariants.{Whole, KeysAlone}
+use Rattle.detail_rows.specs.declared.detail_lines.LineKind.TheVariants.{Whole}
 use Rattle.detail_rows.specs.declared.parent_row.ParentRow.{ParentRow}
 use Rattle.detail_rows.specs.declared.parent_row.ParentRows.{ParentRows}
-use Rattle.detail_rows.specs.Lines.{key_lines_of_row, key_of_row, lines_of_row, parent_place}
-use Rattle.detail_rows.specs.Packages.{born_by, listed_text, living_from, row_text}
-use Rattle.detail_rows.specs.Told.{LinesBy, first_rows, row_of, told_key_line, told_key_lines, told_line, told_lines, told_text}
+use Rattle.detail_rows.specs.Lines.{count_column, key_of_row, layout_beside, line_count, lines_of_draw, parent_place}
+use Rattle.detail_rows.specs.Made.{IsToldRow, LinesOver, made_rows, place_over, row_over, told_at, told_count}
+use Rattle.detail_rows.specs.Packages.{listed_text, living_from, row_text}
 
 -- ---- one row
-
-abbrev told : ℕ → ℕ → ℕ → ℕ → ParentRow
-told key ordinal born changed = record { key = key; ordinal = ordinal; born = born; changed = changed }
-
-same_row : (k l ordinal b c changed other : ℕ) → k ≡ l → b ≡ c → changed ≡ other → told k ordinal b changed ≡ told l ordinal c other
-same_row k l ordinal b c changed other keys births changes =
-    ap (λ (n : ℕ). told n ordinal b changed) keys ∙ ap (λ (n : ℕ). told l ordinal n changed) births ∙ ap (λ (n : ℕ). told l ordinal c n) changes
-
--- what the lines of a row take from it
-abbrev told_of : Generator → ℕ → Row → ParentRow
-told_of generator place row = told (key_of_row generator place row) row.ordinal row.born row.changed
-
-lines_of-told : (generator : Generator) (place : ℕ) (detail : Detail) (row : Row) → told_lines (record { delimiter = generator.delimiter; detail = detail }) (told_of generator place row) ≡ lines_of_row generator place detail row
-unfolding lines_of_row told_line
-lines_of-told generator place detail row = refl
-
-key_lines_of-told : (generator : Generator) (place : ℕ) (detail : Detail) (row : Row) (changed : ℕ) →
-    told_key_lines (record { delimiter = generator.delimiter; detail = detail }) (told (key_of_row generator place row) row.ordinal row.born changed) ≡ key_lines_of_row generator place detail row
-unfolding key_lines_of_row told_key_line
-key_lines_of-told generator place detail row changed = refl
 
 key_of-row_at : (generator : Generator) (place unit ordinal : ℕ) → key_of generator place unit ordinal ≡ key_of_row generator place (row_at generator place unit ordinal)
 unfolding key_of
 key_of-row_at generator place unit ordinal = refl
 
-module _ (plan : Project) (detail : Detail) (unit : ℕ) (within : unit ≤ last_unit plan) (below : parent_place plan detail < length plan.schema.tables) where
-  abbrev generator : Generator
-  generator = generator_of plan
+-- its key is the same by the last unit and by one at which it is born
+pub key-told : (plan : Project) (place unit ordinal key : ℕ) → unit ≤ last_unit plan → ordinal < born_count (table_of plan place).births unit → key ≡ key_of (generator_of plan) place (last_unit plan) ordinal →
+    key ≡ key_of_row (generator_of plan) place (row_at (generator_of plan) place unit ordinal)
+key-told plan place unit ordinal key within inside is =
+    is ∙ key_of-by (generator_of plan) (last_unit plan) unit place ordinal within inside ∙ key_of-row_at (generator_of plan) place unit ordinal
 
-  abbrev place : ℕ
-  place = parent_place plan detail
+-- what is told of its units are those of the row at the unit
+pub units-told : (over : LinesOver) (unit : ℕ) (kind : LineKind) (row : ParentRow) → place_over over < length over.plan.schema.tables → IsToldRow over unit kind row → kind ≡ Whole →
+    told_at row ≡ at_row (row_over over unit row.ordinal)
+units-told over unit kind row below told whole =
+    let generator = generator_of over.plan in
+    let births : Births = (table_of over.plan (place_over over)).births in
+    ap (λ (born : ℕ). record { ordinal = row.ordinal; born = born; changed = row.changed }) (sym (birth-only births unit row.born row.ordinal told.born told.lies))
+    ∙ ap (λ (changed : ℕ). record { ordinal = row.ordinal; born = birth births unit row.ordinal; changed = changed })
+    (told.changed whole ∙ sym (row_at-changed generator (place_over over) unit row.ordinal (place-below over.plan (place_over over) below)))
 
-  abbrev births : Births
-  births = (table_of plan place).births
+-- it has as many lines
+pub count-told : (over : LinesOver) (unit : ℕ) (kind : LineKind) (row : ParentRow) → IsToldRow over unit kind row →
+    told_count over row ≡ line_count (layout_beside over.plan over.kept) (row_over over unit row.ordinal)
+count-told over unit kind row told =
+    let births : Births = (table_of over.plan (place_over over)).births in
+    ap (λ (born : ℕ). lines_of_draw (layout_beside over.plan over.kept) (field_draw (count over.kept.detail.seed) 0 count_column born row.ordinal 1))
+    (sym (birth-only births unit row.born row.ordinal told.born told.lies))
 
-  abbrev lines : LinesBy
-  lines = record { delimiter = (layout_of plan).delimiter; detail = detail }
+-- and its ordinal is below 2^40
+pub ordinal-small : (over : LinesOver) (unit : ℕ) (kind : LineKind) (row : ParentRow) → IsPlanInLimits over.plan → place_over over < length over.plan.schema.tables → unit ≤ last_unit over.plan → IsToldRow over unit kind row → row.ordinal < 2 ^ 40
+ordinal-small over unit kind row sound below within told =
+    omega (
+      arith,
+      told.ordinal,
+      born_count-le (table_of over.plan (place_over over)).births unit (last_unit over.plan) within,
+      row_limit over.plan sound (place_over over) below,
+    )
 
-  row-told : (kind : LineKind) (key ordinal born changed : ℕ) → ordinal < born_by plan detail unit → LiesIn births born ordinal → born ≤ unit → key ≡ key_of generator place (last_unit plan) ordinal →
-      (kind ≡ Whole → changed ≡ change_unit generator place unit ordinal) → told_text lines kind (told key ordinal born changed) ≡ row_text plan detail kind unit ordinal
-  row-told Whole key ordinal born changed inside lies early key_is changed_is =
-      let row : Row = row_at generator place unit ordinal in
-      let keys : key ≡ key_of_row generator place row = key_is ∙ key_of-by generator (last_unit plan) unit place ordinal within inside ∙ key_of-row_at generator place unit ordinal in
-      ap (told_lines lines)
-      (same_row key (key_of_row generator place row) ordinal born (birth births unit ordinal) changed row.changed keys (sym (birth-only births unit born ordinal early lies))
-      (changed_is refl ∙ sym (row_at-changed generator place unit ordinal (place-below plan place below))))
-      ∙ lines_of-told generator place detail row
-  row-told KeysAlone key ordinal born changed inside lies early key_is changed_is =
-      let row : Row = row_at generator place unit ordinal in
-      let keys : key ≡ key_of_row generator place row = key_is ∙ key_of-by generator (last_unit plan) unit place ordinal within inside ∙ key_of-row_at generator place unit ordinal in
-      ap (told_key_lines lines)
-      (same_row key (key_of_row generator place row) ordinal born (birth births unit ordinal) changed changed keys (sym (birth-only births unit born ordinal early lies)) refl)
-      ∙ key_lines_of-told generator place detail row changed
+-- ---- rows side by side
 
-  -- ---- rows side by side
-
-  pub rows-told : (kind : LineKind) (rows : ParentRows) → IsRun plan place unit rows.ordinals.now rows.births.now → ((i : ℕ) → i < length rows.ordinals.now → get_or rows.ordinals.now i 0 < born_by plan detail unit) →
-      ((i : ℕ) → i < length rows.ordinals.now → get_or rows.keys.now i 0 ≡ key_of generator place (last_unit plan) (get_or rows.ordinals.now i 0)) →
-      (kind ≡ Whole → (i : ℕ) → i < length rows.ordinals.now → get_or rows.changes.now i 0 ≡ change_unit generator place unit (get_or rows.ordinals.now i 0)) →
-      first_rows lines kind rows (length rows.ordinals.now) ≡ listed_text plan detail kind unit rows.ordinals.now
-  rows-told kind rows run born keys changes =
-      let ordinals : List ℕ = rows.ordinals.now in
-      let at : ℕ → ℕ = λ i. get_or ordinals i 0 in
-      flat_map-range_same (λ i. told_text lines kind (row_of rows i)) (λ i. row_text plan detail kind unit (get_or ordinals i 0)) 0 (length ordinals)
-      (λ i inside.
-      let here : i < length ordinals = omega (arith, inside) in
-      row-told kind (get_or rows.keys.now i 0) (get_or ordinals i 0) (get_or rows.births.now i 0) (get_or rows.changes.now i 0) (born i here) (run.lies i here) (run.born i here) (keys i here) (λ whole. changes whole i here))
-      ∙ sym (flat_map-map (row_text plan detail kind unit) at (range_with_len 0 (length ordinals)))
-      ∙ ap (flat_map (row_text plan detail kind unit)) (sym (fill_by_all at ordinals (length ordinals) 0 refl (λ k inside. refl)))
+pub rows-listed : (over : LinesOver) (kind : LineKind) (unit : ℕ) (rows : ParentRows) →
+    made_rows over kind unit rows (length rows.ordinals.now) ≡ listed_text over.plan over.kept kind unit rows.ordinals.now
+rows-listed over kind unit rows =
+    let ordinals : List ℕ = rows.ordinals.now in
+    let at : ℕ → ℕ = λ i. get_or ordinals i 0 in
+    sym (flat_map-map (row_text over.plan over.kept kind unit) at (range_with_len 0 (length ordinals)))
+    ∙ ap (flat_map (row_text over.plan over.kept kind unit)) (sym (fill_by_all at ordinals (length ordinals) 0 refl (λ k inside. refl)))
 
 -- ---- some rows, and some more
 
-pub listed_text-part : (plan : Project) (detail : Detail) (kind : LineKind) (unit : ℕ) (ordinals : List ℕ) (done some : ℕ) →
-    listed_text plan detail kind unit (take done ordinals) ++ listed_text plan detail kind unit (take some (drop done ordinals)) ≡ listed_text plan detail kind unit (take (done + some) ordinals)
-listed_text-part plan detail kind unit ordinals done some =
-    sym (flat_map-append (row_text plan detail kind unit) (take done ordinals) (take some (drop done ordinals))) ∙ ap (listed_text plan detail kind unit) (sym (take-add done some ordinals))
+pub listed_text-part : (plan : Project) (kept : Kept) (kind : LineKind) (unit : ℕ) (ordinals : List ℕ) (done some : ℕ) →
+    listed_text plan kept kind unit (take done ordinals) ++ listed_text plan kept kind unit (take some (drop done ordinals)) ≡ listed_text plan kept kind unit (take (done + some) ordinals)
+listed_text-part plan kept kind unit ordinals done some =
+    sym (flat_map-append (row_text plan kept kind unit) (take done ordinals) (take some (drop done ordinals))) ∙ ap (listed_text plan kept kind unit) (sym (take-add done some ordinals))
 
-pub living-more : (plan : Project) (detail : Detail) (unit first count more : ℕ) →
-    listed_text plan detail Whole unit (living_from plan detail unit first (count + more))
-    ≡ listed_text plan detail Whole unit (living_from plan detail unit first count) ++ listed_text plan detail Whole unit (living_from plan detail unit (first + count) more)
-living-more plan detail unit first count more =
-    let live : ℕ → Bool = is_live (generator_of plan) (parent_place plan detail) unit in
-    ap (λ (ordinals : List ℕ). listed_text plan detail Whole unit (filter live ordinals)) (range_with_len-add first count more)
-    ∙ flat_map-filter_append (row_text plan detail Whole unit) live (range_with_len first count) (range_with_len (first + count) more)
+pub living-more : (plan : Project) (kept : Kept) (unit first count more : ℕ) →
+    listed_text plan kept Whole unit (living_from plan kept unit first (count + more))
+    ≡ listed_text plan kept Whole unit (living_from plan kept unit first count) ++ listed_text plan kept Whole unit (living_from plan kept unit (first + count) more)
+living-more plan kept unit first count more =
+    let live : ℕ → Bool = is_live (generator_of plan) (parent_place plan kept.detail) unit in
+    ap (λ (ordinals : List ℕ). listed_text plan kept Whole unit (filter live ordinals)) (range_with_len-add first count more)
+    ∙ flat_map-filter_append (row_text plan kept Whole unit) live (range_with_len first count) (range_with_len (first + count) more)
 
 -- what is kept by a test of each item is what passes it
 pub kept-filter : (p : ℕ → Bool) (xs : List ℕ) → kept_by (map p xs) xs ≡ filter p xs

@@ -5,15 +5,15 @@ use Rattle.stream_apply.specs.InTurn.{IsFaultAt}
 use Rattle.stream_apply.specs.declared.fault.ApplyFault.{ApplyFault}
 use Rattle.stream_apply.specs.declared.fault.ApplyFault.TheVariants as applying
 use Rattle.stream_apply.specs.declared.key_fields.KeyFields.TheVariants.{Two}
-use Rattle.detail_plan.specs.declared.detail.Detail.{Detail}
+use Rattle.detail_plan.specs.Kept.{Kept}
 use Rattle.detail_rows.specs.Lines.{detail_deleted_text, detail_inserted_text, detail_updated_text}
 use Rattle.detail_rows.specs.declared.applied.DetailApplyFault.{DetailApplyFault}
 use Rattle.detail_rows.specs.declared.applied.DetailApplyFault.TheVariants.{BadLine, DoubleKey, KeyExists, Memory, NoSuchKey}
 
 -- what a unit changes in a detail table, in the order in which it is applied: what it deletes, updates and inserts
-abbrev pub detail_streams : Project → Detail → ℕ → List (List ℕ)
-detail_streams plan detail unit =
-    detail_deleted_text plan detail unit ∷ detail_updated_text plan detail unit ∷ detail_inserted_text plan detail unit ∷ []
+abbrev pub detail_streams : Project → Kept → ℕ → List (List ℕ)
+detail_streams plan kept unit =
+    detail_deleted_text plan kept unit ∷ detail_updated_text plan kept unit ∷ detail_inserted_text plan kept unit ∷ []
 
 -- a fault of an input as it is told of a detail table
 abbrev pub detail_fault : ℕ → ApplyFault → DetailApplyFault

@@ -1,6 +1,6 @@
 pub mod Lines
-pub mod Ready
-pub mod Told
+pub mod Made
+pub mod Shown
 pub mod Packages
 pub mod Parent
 pub mod Applying

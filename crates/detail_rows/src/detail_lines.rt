@@ -1,28 +1,33 @@
 //! The lines of a detail table for rows of its parent, one row after the other.
 
-ghost use Rattle.std.specs.Prelude.{◌≡◌, ◌<◌, ◌≤◌, ◌+◌, ◌-◌, ◌*◌, ◌^◌, ◌++◌, ◌∷◌, ℕ, All, IfOk, decimal, get_or, length, map};
+ghost use Rattle.std.specs.Prelude.{◌≡◌, ◌<◌, ◌≤◌, ◌+◌, ◌*◌, ◌^◌, ◌++◌, ◌∷◌, IfOk, decimal, if◌then◌else◌, length, map};
 ghost use Rattle.std.specs.List.{range_with_len};
 ghost use Rattle.philox_seeds.specs.SeedTree.{column_seed};
-ghost use Rattle.row_text.specs.Fields.{IsDelimiter};
+ghost use Rattle.cohort_sizes.specs.Births.{LiesIn};
 ghost use Rattle.schema_plan.specs.Counts.{count};
-ghost use Rattle.detail_plan.specs.Limits.{IsColumnInLimits, IsInLimits};
-ghost use Rattle.detail_plan.specs.Rules.{KeepsRules, line_size, reach_by, reach_of};
-ghost use Rattle.detail_rows.specs.Ready.{ready_column, ready_columns};
-ghost use Rattle.detail_rows.specs.Told.{AreMany, AreSeeds, AreSeedsBefore, column_seeds, first_rows, row_of, told_count, told_key_line, told_key_lines, told_line, told_lines, told_text, told_unit};
+ghost use Rattle.schema_plan.specs.Limits.{IsInLimits as IsPlanInLimits};
+ghost use Rattle.life_intervals.specs.Generator.{last_unit, table_of};
+ghost use Rattle.detail_plan.specs.Kept.{KeepsRules};
+ghost use Rattle.detail_plan.specs.Limits.{IsInLimits};
+ghost use Rattle.detail_plan.specs.Rules.{line_size};
+ghost use Rattle.detail_rows.specs.Shown.{IsWide};
+ghost use Rattle.detail_rows.specs.Made.{AreMany, AreSeeds, AreSeedsBefore, AreToldRows, IsParentAt, IsToldRow, column_seeds, delimiter_over, made_key_line, made_line, made_row, made_rows, own_over, row_of, told_at, told_count};
 
+use crate::line::DetailLine;
 use crate::parent_row::{ParentRow, ParentRows};
-use crate::values::{ReadyValue, put_fields, ready_value};
-use detail_plan::{Detail, DetailColumn, DetailPlan};
+use crate::shown::{MOST_COLUMNS, Shown};
+use detail_plan::{Detail, DetailPlan};
 use fixed_divisors::FixedDivisor;
+use life_intervals::Rows;
 use line_pages::{PageBuf, Piece};
 use out_of_memory::Memory;
 use philox_seeds::{column_seed, draw, row_seed, table_seed, unit_seed};
-use schema_plan::{Plan, count};
+use row_lines::StillRow;
+use schema_plan::{Plan, ReadyColumn, count};
 use std::alloc::Global;
 use std::marker::Model;
-
-/// The most columns of a detail table.
-pub(crate) const MOST_COLUMNS: usize = 32;
+use std::sync::ledger::Ledger;
+use step_count::Steps;
 
 /// The column number whose seed draws how many lines a row has.
 const COUNT_COLUMN: u32 = 32;
@@ -42,57 +47,48 @@ pub enum LineKind {
     KeysAlone,
 }
 
-/// The lines of a detail table, with what doesn't change from line to line. A contract sees the detail table and the delimiter.
+/// The parent's table at a unit.
+#[derive(Clone, Copy)]
+pub(crate) struct ParentAt<'a> {
+    pub(crate) rows: &'a Rows<'a>,
+    pub(crate) table: u32,
+    pub(crate) unit: u64,
+}
+
+/// The lines of a detail table, with what doesn't change from line to line. A contract sees the plan and the detail table.
 pub(crate) struct DetailLines<'a> {
+    plan: &'a Plan,
     detail: &'a DetailPlan,
     delimiter: u8,
     counts: u64,
     least: u64,
     spread: FixedDivisor,
-    values: Vec<ReadyValue>,
     seeds: Vec<u64>,
 }
 
 impl Drop for DetailLines<'_> {
     fn drop(self) {
         let DetailLines {
+            plan: _,
             detail: _,
             delimiter: _,
             counts: _,
             least: _,
             spread: _,
-            values,
             seeds,
         } = self;
-        drop(values);
         drop(seeds);
     }
 }
 
 impl<'a> Model for DetailLines<'a> {
-    ghost use Rattle.detail_rows.specs.Told.{AreKept, LinesBy};
+    ghost use Rattle.detail_rows.specs.Made.{AreKept, LinesOver};
 
-    ghost Value = { LinesBy };
+    ghost Value = { LinesOver };
 
-    ghost view = { λ l. record { delimiter = l.delimiter; detail = l.detail.now } };
+    ghost view = { λ l. record { plan = l.plan.now; kept = l.detail.now } };
 
-    ghost invariant = { λ l. AreKept (record { delimiter = l.delimiter; detail = l.detail.now }) l.counts l.least l.spread l.values.items l.seeds.items };
-}
-
-/// Makes ready what the fields of some columns hold.
-fn values_of(
-    alloc: Global,
-    delimiter: u8,
-    columns: &[DetailColumn],
-) -> Result<Vec<ReadyValue>, Memory>
-    requires { All IsColumnInLimits columns.now }
-    ensures { IfOk result (λ values. values.items ≡ map (ready_column delimiter) columns.now) }
-{
-    let mut values = Vec::with_capacity(alloc, columns.len())?;
-    for column in columns {
-        values.push(ready_value(alloc, delimiter, &column.kind)?)?;
-    }
-    Ok(values)
+    ghost invariant = { λ l. AreKept (record { plan = l.plan.now; kept = l.detail.now }) l.delimiter l.counts l.least l.spread l.seeds.items };
 }
 
 /// Returns the seeds of the first `many` columns below a seed.
@@ -120,8 +116,8 @@ fn put_head(delimiter: u8, key: u64, number: u64, page: &mut PageBuf)
 }
 
 /// Returns the unit at which the fields of a column are drawn for a row.
-fn draw_unit(column: &DetailColumn, row: &ParentRow) -> u64
-    ensures { result ≡ told_unit column.now row.now }
+fn draw_unit(column: &ReadyColumn, row: &ParentRow) -> u64
+    ensures { result ≡ (if column.now.changes then row.now.changed else row.now.born) }
 {
     if column.changes {
         row.changed
@@ -130,74 +126,79 @@ fn draw_unit(column: &DetailColumn, row: &ParentRow) -> u64
     }
 }
 
+impl<'a> ParentAt<'a> {
+    /// Returns the row that is told, to read its columns.
+    fn row(&self, row: &ParentRow) -> StillRow<'a>
+        requires table { self.now.table < length self.now.rows.now.schema.tables }
+        requires unit { self.now.unit ≤ last_unit self.now.rows.now }
+        requires lies { LiesIn (table_of self.now.rows.now self.now.table).births row.now.born row.now.ordinal }
+        requires born { row.now.born ≤ self.now.unit }
+        ensures { result ≡ record { plan = self.now.rows.now; table = self.now.table; unit = self.now.unit; ordinal = row.now.ordinal } }
+    {
+        StillRow::new(self.rows, self.table, row.ordinal, row.born, self.unit)
+    }
+}
+
 impl<'a> DetailLines<'a> {
-    /// Makes ready the lines of a detail table with a delimiter. Refuses if memory is wanting.
+    /// Makes ready the lines of a detail table, which keeps its rules over the plan. Refuses if memory is wanting.
     pub(crate) fn new(
         alloc: Global,
-        delimiter: u8,
+        plan: &'a Plan,
         detail: &'a DetailPlan,
     ) -> Result<DetailLines<'a>, Memory>
-        requires { IsDelimiter delimiter }
-        ensures { IfOk result (λ lines. lines ≡ record { delimiter = delimiter; detail = detail.now }) }
+        requires { KeepsRules plan.now detail.now }
+        ensures { IfOk result (λ lines. lines ≡ record { plan = plan.now; kept = detail.now }) }
     {
+        let _sound = plan.schema(); // each table is within its limits
         let declared = detail.detail();
-        let columns = declared.columns.as_slice();
         let seed = table_seed(count(declared.seed), 0);
-        let values = values_of(alloc, delimiter, columns)?;
-        let seeds = column_seeds(alloc, seed, columns.len() as u32)?;
+        let seeds = column_seeds(alloc, seed, declared.columns.len() as u32)?;
         Ok(DetailLines {
+            plan,
             detail,
-            delimiter,
+            delimiter: plan.delimiter(),
             counts: column_seed(seed, COUNT_COLUMN),
             least: count(declared.lo),
             spread: FixedDivisor::new(count(declared.hi) - count(declared.lo) + 1),
-            values,
             seeds,
         })
     }
 
     /// Returns the detail table.
     fn declared(&self) -> &Detail
-        ensures value { result.now ≡ self.now.detail }
-        ensures limits { IsInLimits self.now.detail }
+        ensures value { result.now ≡ self.now.kept.detail }
+        ensures limits { IsInLimits self.now.kept.lists self.now.kept.detail }
+        ensures keeps { KeepsRules self.now.plan self.now.kept }
+        ensures sound { IsPlanInLimits self.now.plan }
     {
         self.detail.detail()
     }
 
-    /// Returns the greatest size of all lines of a row, in bytes. The detail table must keep its rules over the plan.
-    pub(crate) fn reach(&self, plan: &Plan) -> u64
-        requires { KeepsRules plan.now self.now.detail }
-        ensures reach { result ≡ reach_of plan.now self.now.detail }
+    /// Returns the greatest size of all lines of a row, in bytes.
+    pub(crate) fn reach(&self) -> u64
+        ensures reach { result ≡ self.now.kept.reach }
         ensures most { result ≤ 65536 }
     {
-        self.detail.reach(plan)
+        self.detail.reach(self.plan)
     }
 
     /// Returns the byte between two fields.
     fn delimiter(&self) -> u8
-        ensures { result ≡ self.now.delimiter }
+        ensures { result ≡ delimiter_over self.now }
     {
         self.delimiter
     }
 
-    /// Returns what the fields of the columns hold.
-    fn values(&self) -> &[ReadyValue]
-        ensures values { result.now ≡ ready_columns self.now.delimiter self.now.detail }
-        ensures limits { IsInLimits self.now.detail }
-    {
-        self.values.as_slice()
-    }
-
     /// Returns the seeds of the columns, below that of the detail table.
     fn seeds(&self) -> &[u64]
-        ensures { result.now ≡ column_seeds self.now.detail }
+        ensures { result.now ≡ column_seeds self.now.kept }
     {
         self.seeds.as_slice()
     }
 
     /// Returns the number of columns.
     pub(crate) fn columns(&self) -> usize
-        ensures many { result ≡ length self.now.detail.columns }
+        ensures many { result ≡ own_over self.now }
         ensures few { result ≤ MOST_COLUMNS }
     {
         self.declared().columns.len()
@@ -205,8 +206,8 @@ impl<'a> DetailLines<'a> {
 
     /// Returns how many lines a row has.
     fn count(&self, row: &ParentRow) -> u64
-        ensures count { result ≡ told_count self.now.detail row.now }
-        ensures most { result ≤ count self.now.detail.hi }
+        ensures count { result ≡ told_count self.now row.now }
+        ensures most { result ≤ count self.now.kept.detail.hi }
         ensures few { result ≤ MOST_LINES }
     {
         let _limits = self.declared(); // it has at most 64
@@ -216,65 +217,99 @@ impl<'a> DetailLines<'a> {
 
     /// Puts the seed of each column for the unit at which a row's field is drawn.
     pub(crate) fn put_seeds(&self, row: &ParentRow, seeds: &mut [u64])
-        requires { length seeds.old ≡ length self.now.detail.columns }
-        ensures { AreSeeds self.now.detail row.now seeds.new }
+        requires { length seeds.old ≡ own_over self.now }
+        ensures { AreSeeds self.now (told_at row.now) seeds.new }
     {
-        let columns = self.declared().columns.as_slice();
+        let columns = self.detail.columns();
         let columns_seeds = self.seeds();
-        for column in 0..columns.len() {
+        for column in 0..self.columns() {
             let unit = draw_unit(&columns[column], row);
             seeds[column] = unit_seed(columns_seeds[column], unit);
         }
     }
 
-    /// Appends a line of a row.
-    fn put_line(&self, row: &ParentRow, seeds: &[u64], number: u64, page: &mut PageBuf)
-        requires seeds { AreSeeds self.now.detail row.now seeds.now }
-        requires ordinal { row.now.ordinal < 2 ^ 40 }
+    /// Appends a line of a row, which is held to read its columns.
+    fn put_line<L: Ledger>(
+        &self,
+        at: &ParentAt<'_>,
+        row: &ParentRow,
+        held: &StillRow<'_>,
+        seeds: &[u64],
+        number: u64,
+        shown: &mut Shown,
+        page: &mut PageBuf,
+        steps: &mut Steps<L>,
+    )
+        requires at { IsParentAt self.now at.now }
+        requires told { IsToldRow self.now at.now.unit LineKind.Whole row.now }
+        requires held { held.now ≡ record { plan = at.now.rows.now; table = at.now.table; unit = at.now.unit; ordinal = row.now.ordinal } }
+        requires seeds { AreSeeds self.now (told_at row.now) seeds.now }
         requires numbered { 1 ≤ number }
         requires number { number ≤ MOST_LINES }
-        requires room { length page.old.text + line_size self.now.delimiter self.now.detail ≤ page.old.room }
-        ensures text { page.new ≡ record page.old { text = page.old.text ++ told_line self.now row.now number } }
-        ensures size { length (told_line self.now row.now number) ≤ line_size self.now.delimiter self.now.detail }
+        requires wide { IsWide shown.old }
+        requires room { length page.old.text + line_size self.now.plan self.now.kept.lists self.now.kept.detail ≤ page.old.room }
+        ensures wide { IsWide shown.new }
+        ensures text { page.new ≡ record page.old { text = page.old.text ++ made_line self.now at.now.unit row.now.ordinal number } }
+        ensures size { length (made_line self.now at.now.unit row.now.ordinal number) ≤ line_size self.now.plan self.now.kept.lists self.now.kept.detail }
     {
-        let ordinal = MOST_LINES * row.ordinal + (number - 1);
+        let _limits = self.declared(); // a line has room for a key, a number and the fields
+        let drawn = MOST_LINES * row.ordinal + (number - 1);
         put_head(self.delimiter(), row.key, number, page);
-        put_fields(self.delimiter(), self.values(), seeds, ordinal, page);
+        DetailLine::new(self.detail, self.delimiter(), held, seeds, number, drawn).put_fields(
+            shown, page, steps,
+        );
         page.put_piece(&Piece::of_byte(b'\n'));
     }
 
     /// Appends all lines of a row.
-    pub(crate) fn put_lines(&self, row: &ParentRow, seeds: &[u64], page: &mut PageBuf)
-        requires seeds { AreSeeds self.now.detail row.now seeds.now }
-        requires ordinal { row.now.ordinal < 2 ^ 40 }
-        requires room { length page.old.text + reach_by self.now.delimiter self.now.detail ≤ page.old.room }
-        ensures text { page.new ≡ record page.old { text = page.old.text ++ told_lines self.now row.now } }
-        ensures size { length (told_lines self.now row.now) ≤ reach_by self.now.delimiter self.now.detail }
+    pub(crate) fn put_lines<L: Ledger>(
+        &self,
+        at: &ParentAt<'_>,
+        row: &ParentRow,
+        seeds: &[u64],
+        page: &mut PageBuf,
+        steps: &mut Steps<L>,
+    )
+        requires at { IsParentAt self.now at.now }
+        requires told { IsToldRow self.now at.now.unit LineKind.Whole row.now }
+        requires seeds { AreSeeds self.now (told_at row.now) seeds.now }
+        requires room { length page.old.text + self.now.kept.reach ≤ page.old.room }
+        ensures text { page.new ≡ record page.old { text = page.old.text ++ made_row self.now LineKind.Whole at.now.unit row.now.ordinal } }
+        ensures size { length (made_row self.now LineKind.Whole at.now.unit row.now.ordinal) ≤ self.now.kept.reach }
     {
+        let _limits = self.declared(); // all lines of a row are within the reach
+        let held = at.row(row);
+        let mut shown = Shown::new();
         for done in 0..self.count(row) {
-            self.put_line(row, seeds, done + 1, page);
+            self.put_line(at, row, &held, seeds, done + 1, &mut shown, page, steps);
         }
     }
 
     /// Appends the key of a line of a row, with a line feed.
-    fn put_key_line(&self, row: &ParentRow, number: u64, page: &mut PageBuf)
+    fn put_key_line(&self, t: u64, row: &ParentRow, number: u64, page: &mut PageBuf)
+        requires told { IsToldRow self.now t LineKind.KeysAlone row.now }
+        requires unit { t ≤ last_unit self.now.plan }
         requires number { number ≤ MOST_LINES }
-        requires room { length page.old.text + line_size self.now.delimiter self.now.detail ≤ page.old.room }
-        ensures text { page.new ≡ record page.old { text = page.old.text ++ told_key_line self.now row.now number } }
-        ensures size { length (told_key_line self.now row.now number) ≤ line_size self.now.delimiter self.now.detail }
+        requires room { length page.old.text + line_size self.now.plan self.now.kept.lists self.now.kept.detail ≤ page.old.room }
+        ensures text { page.new ≡ record page.old { text = page.old.text ++ made_key_line self.now t row.now.ordinal number } }
+        ensures size { length (made_key_line self.now t row.now.ordinal number) ≤ line_size self.now.plan self.now.kept.lists self.now.kept.detail }
     {
+        let _limits = self.declared(); // a line has room for a key and a number
         put_head(self.delimiter(), row.key, number, page);
         page.put_piece(&Piece::of_byte(b'\n'));
     }
 
     /// Appends the keys of all lines of a row, each with a line feed.
-    pub(crate) fn put_key_lines(&self, row: &ParentRow, page: &mut PageBuf)
-        requires { length page.old.text + reach_by self.now.delimiter self.now.detail ≤ page.old.room }
-        ensures text { page.new ≡ record page.old { text = page.old.text ++ told_key_lines self.now row.now } }
-        ensures size { length (told_key_lines self.now row.now) ≤ reach_by self.now.delimiter self.now.detail }
+    pub(crate) fn put_key_lines(&self, t: u64, row: &ParentRow, page: &mut PageBuf)
+        requires told { IsToldRow self.now t LineKind.KeysAlone row.now }
+        requires unit { t ≤ last_unit self.now.plan }
+        requires room { length page.old.text + self.now.kept.reach ≤ page.old.room }
+        ensures text { page.new ≡ record page.old { text = page.old.text ++ made_row self.now LineKind.KeysAlone t row.now.ordinal } }
+        ensures size { length (made_row self.now LineKind.KeysAlone t row.now.ordinal) ≤ self.now.kept.reach }
     {
+        let _limits = self.declared(); // all lines of a row are within the reach
         for done in 0..self.count(row) {
-            self.put_key_line(row, done + 1, page);
+            self.put_key_line(t, row, done + 1, page);
         }
     }
 
@@ -282,9 +317,9 @@ impl<'a> DetailLines<'a> {
     fn follow(&self, rows: &ParentRows<'_>, i: usize, many: usize, seeds: &mut [u64])
         requires many { AreMany many rows.now }
         requires within { i < many }
-        requires columns { length seeds.old ≡ length self.now.detail.columns }
-        requires before { AreSeedsBefore self.now.detail rows.now i seeds.old }
-        ensures { AreSeeds self.now.detail (row_of rows.now i) seeds.new }
+        requires columns { length seeds.old ≡ own_over self.now }
+        requires before { AreSeedsBefore self.now rows.now i seeds.old }
+        ensures { AreSeeds self.now (told_at (row_of rows.now i)) seeds.new }
     {
         let row = rows.row(i, many);
         if i == 0 {
@@ -297,55 +332,61 @@ impl<'a> DetailLines<'a> {
     }
 
     /// Appends all lines of the row at a place, whole or as keys only.
-    fn put_row(
+    fn put_row<L: Ledger>(
         &self,
         kind: LineKind,
+        at: &ParentAt<'_>,
         rows: &ParentRows<'_>,
         i: usize,
         many: usize,
         seeds: &mut [u64],
         page: &mut PageBuf,
+        steps: &mut Steps<L>,
     )
+        requires at { IsParentAt self.now at.now }
         requires many { AreMany many rows.now }
         requires within { i < many }
-        requires ordinals { (k : ℕ) → k < many → get_or rows.now.ordinals.now k 0 < 2 ^ 40 }
-        requires columns { length seeds.old ≡ length self.now.detail.columns }
-        requires before { kind ≡ LineKind.Whole → AreSeedsBefore self.now.detail rows.now i seeds.old }
-        requires room { length page.old.text + reach_by self.now.delimiter self.now.detail ≤ page.old.room }
-        ensures seeds { kind ≡ LineKind.Whole → AreSeeds self.now.detail (row_of rows.now i) seeds.new }
-        ensures columns { length seeds.new ≡ length self.now.detail.columns }
-        ensures text { page.new ≡ record page.old { text = page.old.text ++ told_text self.now kind (row_of rows.now i) } }
-        ensures size { length (told_text self.now kind (row_of rows.now i)) ≤ reach_by self.now.delimiter self.now.detail }
+        requires told { AreToldRows self.now at.now.unit kind rows.now }
+        requires columns { length seeds.old ≡ own_over self.now }
+        requires before { kind ≡ LineKind.Whole → AreSeedsBefore self.now rows.now i seeds.old }
+        requires room { length page.old.text + self.now.kept.reach ≤ page.old.room }
+        ensures seeds { kind ≡ LineKind.Whole → AreSeeds self.now (told_at (row_of rows.now i)) seeds.new }
+        ensures columns { length seeds.new ≡ own_over self.now }
+        ensures text { page.new ≡ record page.old { text = page.old.text ++ made_row self.now kind at.now.unit (row_of rows.now i).ordinal } }
+        ensures size { length (made_row self.now kind at.now.unit (row_of rows.now i).ordinal) ≤ self.now.kept.reach }
     {
         let row = rows.row(i, many);
         match kind {
             LineKind::Whole => {
                 self.follow(rows, i, many, seeds);
-                self.put_lines(&row, seeds, page);
+                self.put_lines(at, &row, seeds, page, steps);
             }
-            LineKind::KeysAlone => self.put_key_lines(&row, page),
+            LineKind::KeysAlone => self.put_key_lines(at.unit, &row, page),
         }
     }
 
     /// Appends all lines of the first `many` rows, whole or as keys only.
-    pub(crate) fn put_rows(
+    pub(crate) fn put_rows<L: Ledger>(
         &self,
         kind: LineKind,
+        at: &ParentAt<'_>,
         rows: &ParentRows<'_>,
         many: usize,
         page: &mut PageBuf,
+        steps: &mut Steps<L>,
     )
+        requires at { IsParentAt self.now at.now }
         requires many { AreMany many rows.now }
-        requires ordinals { (k : ℕ) → k < many → get_or rows.now.ordinals.now k 0 < 2 ^ 40 }
-        requires room { length page.old.text + many * reach_by self.now.delimiter self.now.detail ≤ page.old.room }
-        ensures text { page.new ≡ record page.old { text = page.old.text ++ first_rows self.now kind rows.now many } }
-        ensures size { length (first_rows self.now kind rows.now many) ≤ many * reach_by self.now.delimiter self.now.detail }
+        requires told { AreToldRows self.now at.now.unit kind rows.now }
+        requires room { length page.old.text + many * self.now.kept.reach ≤ page.old.room }
+        ensures text { page.new ≡ record page.old { text = page.old.text ++ made_rows self.now kind at.now.unit rows.now many } }
+        ensures size { length (made_rows self.now kind at.now.unit rows.now many) ≤ many * self.now.kept.reach }
     {
         let mut all_seeds = [0; MOST_COLUMNS];
         let all = &mut all_seeds[..];
         let seeds = &mut all[..self.columns()];
         for i in 0..many {
-            self.put_row(kind, rows, i, many, seeds, page);
+            self.put_row(kind, at, rows, i, many, seeds, page, steps);
         }
     }
 }

@@ -4,10 +4,11 @@
 
 mod applied;
 mod detail_lines;
+mod line;
 mod packer;
 mod parent_lines;
 mod parent_row;
-mod values;
+mod shown;
 
 pub use applied::{DetailApplyFault, apply_details};
 pub use detail_lines::LineKind;

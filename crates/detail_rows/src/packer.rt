@@ -1,7 +1,7 @@
 //! The packages of a detail table's lines.
 
 ghost use Rattle.std.specs.Prelude.{◌≡◌, ◌<◌, ◌≤◌, ◌-◌, ◌*◌, ◌^◌, [], IfOk, length, min};
-ghost use Rattle.detail_plan.specs.Rules.{KeepsRules, reach_of};
+ghost use Rattle.detail_plan.specs.Kept.{KeepsRules};
 ghost use Rattle.detail_rows.specs.Packages.{AreTold, count_of, package_count, range_text, room_of, rows_in, text_numbered};
 
 use crate::detail_lines::LineKind;
@@ -46,15 +46,15 @@ impl<'a> Model for DetailPacker<'a> {
 
     ghost Value = { Packages };
 
-    ghost view = { λ p. record { plan = p.lines.plan; detail = p.lines.detail; rows = p.told; size = p.size } };
+    ghost view = { λ p. record { plan = p.lines.plan; kept = p.lines.kept; rows = p.told; size = p.size } };
 
-    ghost invariant = { λ p. ArePackages (record { plan = p.lines.plan; detail = p.lines.detail; rows = p.told; size = p.size }) p.many p.count p.room };
+    ghost invariant = { λ p. ArePackages (record { plan = p.lines.plan; kept = p.lines.kept; rows = p.told; size = p.size }) p.many p.count p.room };
 }
 
 /// Returns the number of rows: those born by the unit, those listed, or those born at the unit.
 fn rows_in(lines: &ParentLines<'_>, told: &PackedRows<'_>) -> u64
-    requires { AreTold lines.now.plan lines.now.detail told.now }
-    ensures many { result ≡ rows_in lines.now.plan lines.now.detail told.now }
+    requires { AreTold lines.now.plan lines.now.kept told.now }
+    ensures many { result ≡ rows_in lines.now.plan lines.now.kept told.now }
     ensures few { result ≤ 2 ^ 60 }
 {
     match told {
@@ -84,13 +84,13 @@ fn put_range<L: Ledger>(
     page: &mut PageBuf,
     steps: &mut Steps<L>,
 )
-    requires told { AreTold lines.now.plan lines.now.detail told.now }
+    requires told { AreTold lines.now.plan lines.now.kept told.now }
     requires ordered { first ≤ end }
-    requires within { end ≤ rows_in lines.now.plan lines.now.detail told.now }
+    requires within { end ≤ rows_in lines.now.plan lines.now.kept told.now }
     requires empty { page.old.text ≡ [] }
-    requires room { (end - first) * reach_of lines.now.plan lines.now.detail ≤ page.old.room }
-    ensures text { page.new ≡ record page.old { text = range_text lines.now.plan lines.now.detail told.now first end } }
-    ensures size { length (range_text lines.now.plan lines.now.detail told.now first end) ≤ (end - first) * reach_of lines.now.plan lines.now.detail }
+    requires room { (end - first) * lines.now.kept.reach ≤ page.old.room }
+    ensures text { page.new ≡ record page.old { text = range_text lines.now.plan lines.now.kept told.now first end } }
+    ensures size { length (range_text lines.now.plan lines.now.kept told.now first end) ≤ (end - first) * lines.now.kept.reach }
 {
     match told {
         PackedRows::All { unit } => lines.put_living(*unit, first, end - first, page, steps),
@@ -123,7 +123,7 @@ impl<'a> DetailPacker<'a> {
         requires some_row { 1 ≤ size }
         requires size_limit { size ≤ 1000000 }
         requires told { AreTold rows detail.now told }
-        ensures { IfOk result (λ packer. packer ≡ record { plan = rows.entry; detail = detail.now; rows = told.entry; size = size }) }
+        ensures { IfOk result (λ packer. packer ≡ record { plan = rows.entry; kept = detail.now; rows = told.entry; size = size }) }
     {
         let lines = ParentLines::new(alloc, rows, detail)?;
         let many = rows_in(&lines, &told);

@@ -1,17 +1,15 @@
 //! The lines for rows of the parent, named by their ordinals and made in runs.
 
-ghost use Rattle.std.specs.Prelude.{◌≡◌, ◌<◌, ◌≤◌, ◌+◌, ◌*◌, ◌^◌, ◌++◌, ℕ, IfOk, get_or, length, map, take};
-ghost use Rattle.schema_plan.specs.Layout.{layout_of};
+ghost use Rattle.std.specs.Prelude.{◌≡◌, ◌<◌, ◌≤◌, ℕ, ◌+◌, ◌*◌, ◌^◌, ◌++◌, IfOk, get_or, length, map, take};
 ghost use Rattle.life_intervals.specs.Generator.{generator_of, last_unit};
 ghost use Rattle.life_intervals.specs.Intervals.{change_unit, is_live};
-ghost use Rattle.life_intervals.specs.Keys.{key_of};
 ghost use Rattle.life_intervals.specs.Runs.{IsRun};
-ghost use Rattle.detail_plan.specs.Rules.{KeepsRules, reach_of};
+ghost use Rattle.detail_plan.specs.Kept.{KeepsRules};
 ghost use Rattle.detail_rows.specs.Lines.{parent_place};
+ghost use Rattle.detail_rows.specs.Made.{AreMany, AreToldRows};
 ghost use Rattle.detail_rows.specs.Packages.{born_by, first_born, listed_text, living_from, size_born};
-ghost use Rattle.detail_rows.specs.Told.{AreMany};
 
-use crate::detail_lines::{DetailLines, LineKind};
+use crate::detail_lines::{DetailLines, LineKind, ParentAt};
 use crate::parent_row::ParentRows;
 use detail_plan::DetailPlan;
 use life_intervals::{Cohort, MOST_ROWS, Rows, born, cohort};
@@ -33,19 +31,20 @@ pub(crate) struct ParentLines<'a> {
 }
 
 impl<'a> Model for ParentLines<'a> {
-    ghost use Rattle.detail_rows.specs.Parent.{AreParentLines, ParentLinesOf};
+    ghost use Rattle.detail_rows.specs.Made.{LinesOver};
+    ghost use Rattle.detail_rows.specs.Parent.{AreParentLines};
 
-    ghost Value = { ParentLinesOf };
+    ghost Value = { LinesOver };
 
-    ghost view = { λ l. record { plan = l.rows; detail = l.lines.detail } };
+    ghost view = { λ l. record { plan = l.rows; kept = l.lines.kept } };
 
-    ghost invariant = { λ l. AreParentLines (record { plan = l.rows; detail = l.lines.detail }) l.lines l.table };
+    ghost invariant = { λ l. AreParentLines (record { plan = l.rows; kept = l.lines.kept }) l.lines l.table };
 }
 
 /// Returns the place of a detail table's parent in a plan's schema. The detail table must keep its rules over the plan.
 pub fn parent_of(plan: &Plan, detail: &DetailPlan) -> u32
     requires { KeepsRules plan.now detail.now }
-    ensures place { result ≡ parent_place plan.now detail.now }
+    ensures place { result ≡ parent_place plan.now detail.now.detail }
     ensures within { result < length plan.now.schema.tables }
 {
     match plan.table_named(detail.detail().parent.as_str()) {
@@ -63,11 +62,11 @@ impl<'a> ParentLines<'a> {
         detail: &'a DetailPlan,
     ) -> Result<ParentLines<'a>, Memory>
         requires { KeepsRules rows detail.now }
-        ensures { IfOk result (λ lines. lines ≡ record { plan = rows.entry; detail = detail.now }) }
+        ensures { IfOk result (λ lines. lines ≡ record { plan = rows.entry; kept = detail.now }) }
     {
         let plan = rows.plan();
         let table = parent_of(plan, detail);
-        let lines = DetailLines::new(alloc, plan.delimiter(), detail)?;
+        let lines = DetailLines::new(alloc, plan, detail)?;
         Ok(ParentLines { rows, lines, table })
     }
 
@@ -80,15 +79,15 @@ impl<'a> ParentLines<'a> {
 
     /// Returns the lines of the detail table.
     fn lines(&self) -> &DetailLines<'a>
-        ensures value { result.now ≡ record { delimiter = (layout_of self.now.plan).delimiter; detail = self.now.detail } }
-        ensures keeps { KeepsRules self.now.plan self.now.detail }
+        ensures value { result.now ≡ self.now }
+        ensures keeps { KeepsRules self.now.plan self.now.kept }
     {
         &self.lines
     }
 
     /// Returns the place of the parent in the schema.
     pub(crate) fn table(&self) -> u32
-        ensures place { result ≡ parent_place self.now.plan self.now.detail }
+        ensures place { result ≡ parent_place self.now.plan self.now.kept.detail }
         ensures within { result < length self.now.plan.schema.tables }
     {
         self.table
@@ -103,16 +102,16 @@ impl<'a> ParentLines<'a> {
 
     /// Returns the greatest size of all lines of a row, in bytes.
     pub(crate) fn reach(&self) -> u64
-        ensures reach { result ≡ reach_of self.now.plan self.now.detail }
+        ensures reach { result ≡ self.now.kept.reach }
         ensures most { result ≤ 65536 }
     {
-        self.lines().reach(self.rows().plan())
+        self.lines().reach()
     }
 
     /// Returns how many rows of the parent are born by unit `t`.
     pub(crate) fn born(&self, t: u64) -> u64
         requires { t ≤ last_unit self.now.plan }
-        ensures count { result ≡ born_by self.now.plan self.now.detail t }
+        ensures count { result ≡ born_by self.now.plan self.now.kept t }
         ensures limit { result ≤ 2 ^ 40 }
     {
         born(self.rows().plan(), self.table(), t)
@@ -121,10 +120,10 @@ impl<'a> ParentLines<'a> {
     /// Returns the rows of the parent that are born at unit `t`.
     pub(crate) fn cohort(&self, t: u64) -> Cohort
         requires { t ≤ last_unit self.now.plan }
-        ensures first { result.first ≡ first_born self.now.plan self.now.detail t }
-        ensures size { result.size ≡ size_born self.now.plan self.now.detail t }
-        ensures within { result.first + result.size ≡ born_by self.now.plan self.now.detail t }
-        ensures limit { born_by self.now.plan self.now.detail t ≤ 2 ^ 40 }
+        ensures first { result.first ≡ first_born self.now.plan self.now.kept t }
+        ensures size { result.size ≡ size_born self.now.plan self.now.kept t }
+        ensures within { result.first + result.size ≡ born_by self.now.plan self.now.kept t }
+        ensures limit { born_by self.now.plan self.now.kept t ≤ 2 ^ 40 }
     {
         let _most = self.born(t); // there are at most 2^40
         cohort(self.rows().plan(), self.table(), t)
@@ -141,10 +140,10 @@ impl<'a> ParentLines<'a> {
         steps: &mut Steps<L>,
     )
         requires unit { t ≤ last_unit self.now.plan }
-        requires run { IsRun self.now.plan (parent_place self.now.plan self.now.detail) t ordinals.now births.now }
+        requires run { IsRun self.now.plan (parent_place self.now.plan self.now.kept.detail) t ordinals.now births.now }
         requires same_length { length changes.old ≡ length ordinals.now }
         ensures same_length { length changes.new ≡ length ordinals.now }
-        ensures changes { kind ≡ LineKind.Whole → (i : ℕ) → i < length ordinals.now → get_or changes.new i 0 ≡ change_unit (generator_of self.now.plan) (parent_place self.now.plan self.now.detail) t (get_or ordinals.now i 0) }
+        ensures changes { kind ≡ LineKind.Whole → (i : ℕ) → i < length ordinals.now → get_or changes.new i 0 ≡ change_unit (generator_of self.now.plan) (parent_place self.now.plan self.now.kept.detail) t (get_or ordinals.now i 0) }
     {
         match kind {
             LineKind::Whole => {
@@ -157,20 +156,28 @@ impl<'a> ParentLines<'a> {
     }
 
     /// Appends the lines at unit `t` of some rows, from their keys, births and changes. The rows are born by the unit.
-    fn put_told(&self, kind: LineKind, t: u64, told: &ParentRows<'_>, page: &mut PageBuf)
+    fn put_told<L: Ledger>(
+        &self,
+        kind: LineKind,
+        t: u64,
+        told: &ParentRows<'_>,
+        page: &mut PageBuf,
+        steps: &mut Steps<L>,
+    )
         requires unit { t ≤ last_unit self.now.plan }
         requires many { AreMany (length told.now.ordinals.now) told.now }
-        requires rows { (i : ℕ) → i < length told.now.ordinals.now → get_or told.now.ordinals.now i 0 < born_by self.now.plan self.now.detail t }
-        requires run { IsRun self.now.plan (parent_place self.now.plan self.now.detail) t told.now.ordinals.now told.now.births.now }
-        requires keys { (i : ℕ) → i < length told.now.ordinals.now → get_or told.now.keys.now i 0 ≡ key_of (generator_of self.now.plan) (parent_place self.now.plan self.now.detail) (last_unit self.now.plan) (get_or told.now.ordinals.now i 0) }
-        requires changes { kind ≡ LineKind.Whole → (i : ℕ) → i < length told.now.ordinals.now → get_or told.now.changes.now i 0 ≡ change_unit (generator_of self.now.plan) (parent_place self.now.plan self.now.detail) t (get_or told.now.ordinals.now i 0) }
-        requires room { length page.old.text + length told.now.ordinals.now * reach_of self.now.plan self.now.detail ≤ page.old.room }
-        ensures text { page.new ≡ record page.old { text = page.old.text ++ listed_text self.now.plan self.now.detail kind t told.now.ordinals.now } }
-        ensures size { length (listed_text self.now.plan self.now.detail kind t told.now.ordinals.now) ≤ length told.now.ordinals.now * reach_of self.now.plan self.now.detail }
+        requires told { AreToldRows self.now t kind told.now }
+        requires room { length page.old.text + length told.now.ordinals.now * self.now.kept.reach ≤ page.old.room }
+        ensures text { page.new ≡ record page.old { text = page.old.text ++ listed_text self.now.plan self.now.kept kind t told.now.ordinals.now } }
+        ensures size { length (listed_text self.now.plan self.now.kept kind t told.now.ordinals.now) ≤ length told.now.ordinals.now * self.now.kept.reach }
     {
-        let _most = self.born(t); // there are at most 2^40
-        let _place = self.table(); // it is one of the plan's
-        self.lines().put_rows(kind, told, told.ordinals.len(), page);
+        let at = ParentAt {
+            rows: self.rows(),
+            table: self.table(),
+            unit: t,
+        };
+        self.lines()
+            .put_rows(kind, &at, told, told.ordinals.len(), page, steps);
     }
 
     /// Appends the lines at unit `t` of the rows of these ordinals. The rows are born by the unit, and no more than a run has.
@@ -184,10 +191,10 @@ impl<'a> ParentLines<'a> {
     )
         requires few { length ordinals.now ≤ MOST_ROWS }
         requires unit { t ≤ last_unit self.now.plan }
-        requires rows { (i : ℕ) → i < length ordinals.now → get_or ordinals.now i 0 < born_by self.now.plan self.now.detail t }
-        requires room { length page.old.text + length ordinals.now * reach_of self.now.plan self.now.detail ≤ page.old.room }
-        ensures text { page.new ≡ record page.old { text = page.old.text ++ listed_text self.now.plan self.now.detail kind t ordinals.now } }
-        ensures size { length (listed_text self.now.plan self.now.detail kind t ordinals.now) ≤ length ordinals.now * reach_of self.now.plan self.now.detail }
+        requires rows { (i : ℕ) → i < length ordinals.now → get_or ordinals.now i 0 < born_by self.now.plan self.now.kept t }
+        requires room { length page.old.text + length ordinals.now * self.now.kept.reach ≤ page.old.room }
+        ensures text { page.new ≡ record page.old { text = page.old.text ++ listed_text self.now.plan self.now.kept kind t ordinals.now } }
+        ensures size { length (listed_text self.now.plan self.now.kept kind t ordinals.now) ≤ length ordinals.now * self.now.kept.reach }
     {
         let table = self.table();
         let many = ordinals.len();
@@ -209,7 +216,7 @@ impl<'a> ParentLines<'a> {
             births,
             changes,
         };
-        self.put_told(kind, t, &told, page);
+        self.put_told(kind, t, &told, page, steps);
     }
 
     /// Appends the lines at unit `t` of the rows of these ordinals, run by run. The rows are born by the unit.
@@ -222,10 +229,10 @@ impl<'a> ParentLines<'a> {
         steps: &mut Steps<L>,
     )
         requires unit { t ≤ last_unit self.now.plan }
-        requires rows { (i : ℕ) → i < length ordinals.now → get_or ordinals.now i 0 < born_by self.now.plan self.now.detail t }
-        requires room { length page.old.text + length ordinals.now * reach_of self.now.plan self.now.detail ≤ page.old.room }
-        ensures text { page.new ≡ record page.old { text = page.old.text ++ listed_text self.now.plan self.now.detail kind t ordinals.now } }
-        ensures size { length (listed_text self.now.plan self.now.detail kind t ordinals.now) ≤ length ordinals.now * reach_of self.now.plan self.now.detail }
+        requires rows { (i : ℕ) → i < length ordinals.now → get_or ordinals.now i 0 < born_by self.now.plan self.now.kept t }
+        requires room { length page.old.text + length ordinals.now * self.now.kept.reach ≤ page.old.room }
+        ensures text { page.new ≡ record page.old { text = page.old.text ++ listed_text self.now.plan self.now.kept kind t ordinals.now } }
+        ensures size { length (listed_text self.now.plan self.now.kept kind t ordinals.now) ≤ length ordinals.now * self.now.kept.reach }
     {
         let mut done = 0;
         while done < ordinals.len() {
@@ -247,10 +254,10 @@ impl<'a> ParentLines<'a> {
     )
         requires few { some ≤ MOST_ROWS }
         requires unit { t ≤ last_unit self.now.plan }
-        requires rows { first + some ≤ born_by self.now.plan self.now.detail t }
-        requires room { length page.old.text + some * reach_of self.now.plan self.now.detail ≤ page.old.room }
-        ensures text { page.new ≡ record page.old { text = page.old.text ++ listed_text self.now.plan self.now.detail LineKind.Whole t (living_from self.now.plan self.now.detail t first some) } }
-        ensures size { length (listed_text self.now.plan self.now.detail LineKind.Whole t (living_from self.now.plan self.now.detail t first some)) ≤ some * reach_of self.now.plan self.now.detail }
+        requires rows { first + some ≤ born_by self.now.plan self.now.kept t }
+        requires room { length page.old.text + some * self.now.kept.reach ≤ page.old.room }
+        ensures text { page.new ≡ record page.old { text = page.old.text ++ listed_text self.now.plan self.now.kept LineKind.Whole t (living_from self.now.plan self.now.kept t first some) } }
+        ensures size { length (listed_text self.now.plan self.now.kept LineKind.Whole t (living_from self.now.plan self.now.kept t first some)) ≤ some * self.now.kept.reach }
     {
         let mut all_ordinals = [0; MOST_ROWS];
         let all = &mut all_ordinals[..];
@@ -272,9 +279,9 @@ impl<'a> ParentLines<'a> {
         requires few { some ≤ MOST_ROWS }
         requires length { length ordinals.old ≡ some }
         requires unit { t ≤ last_unit self.now.plan }
-        requires rows { first + some ≤ born_by self.now.plan self.now.detail t }
+        requires rows { first + some ≤ born_by self.now.plan self.now.kept t }
         ensures within { result ≤ some }
-        ensures living { take result ordinals.new ≡ living_from self.now.plan self.now.detail t first some }
+        ensures living { take result ordinals.new ≡ living_from self.now.plan self.now.kept t first some }
     {
         let _most = self.born(t); // there are at most 2^40
         let table = self.table();
@@ -301,9 +308,9 @@ impl<'a> ParentLines<'a> {
     )
         requires few { length ordinals.now ≤ MOST_ROWS }
         requires unit { t ≤ last_unit self.now.plan }
-        requires run { IsRun self.now.plan (parent_place self.now.plan self.now.detail) t ordinals.now births.now }
+        requires run { IsRun self.now.plan (parent_place self.now.plan self.now.kept.detail) t ordinals.now births.now }
         requires same_length { length live.old ≡ length ordinals.now }
-        ensures { live.new ≡ map (is_live (generator_of self.now.plan) (parent_place self.now.plan self.now.detail) t) ordinals.now }
+        ensures { live.new ≡ map (is_live (generator_of self.now.plan) (parent_place self.now.plan self.now.kept.detail) t) ordinals.now }
     {
         let table = self.table();
         let many = ordinals.len();
@@ -335,10 +342,10 @@ impl<'a> ParentLines<'a> {
         steps: &mut Steps<L>,
     )
         requires unit { t ≤ last_unit self.now.plan }
-        requires rows { first + count ≤ born_by self.now.plan self.now.detail t }
-        requires room { length page.old.text + count * reach_of self.now.plan self.now.detail ≤ page.old.room }
-        ensures text { page.new ≡ record page.old { text = page.old.text ++ listed_text self.now.plan self.now.detail LineKind.Whole t (living_from self.now.plan self.now.detail t first count) } }
-        ensures size { length (listed_text self.now.plan self.now.detail LineKind.Whole t (living_from self.now.plan self.now.detail t first count)) ≤ count * reach_of self.now.plan self.now.detail }
+        requires rows { first + count ≤ born_by self.now.plan self.now.kept t }
+        requires room { length page.old.text + count * self.now.kept.reach ≤ page.old.room }
+        ensures text { page.new ≡ record page.old { text = page.old.text ++ listed_text self.now.plan self.now.kept LineKind.Whole t (living_from self.now.plan self.now.kept t first count) } }
+        ensures size { length (listed_text self.now.plan self.now.kept LineKind.Whole t (living_from self.now.plan self.now.kept t first count)) ≤ count * self.now.kept.reach }
     {
         let _most = self.born(t); // there are at most 2^40
         let mut done = 0;

@@ -1,6 +1,7 @@
 //! Rows of the parent.
 
 /// What the lines of a row follow from: its key, its ordinal, and the units of its birth and of its last change.
+/// Keys alone need no change.
 #[derive(Clone, Copy, Debug)]
 pub(crate) struct ParentRow {
     pub(crate) key: u64,
@@ -20,7 +21,7 @@ pub(crate) struct ParentRows<'a> {
 
 impl<'a> ParentRows<'a> {
     ghost use Rattle.std.specs.Prelude.{◌≡◌, ◌<◌, ℕ};
-    ghost use Rattle.detail_rows.specs.Told.{AreMany, row_of};
+    ghost use Rattle.detail_rows.specs.Made.{AreMany, row_of};
 
     /// Returns the row at place `i` of `many`.
     #[inline(always)]

@@ -1,5 +1,6 @@
 //! What several tests need: a schema, plans, and texts that are joined.
 
+use dictionaries::read_dictionary;
 use schema_check::check;
 use schema_plan::{Dictionaries, Plan};
 use schema_read::read_schema;
@@ -32,10 +33,37 @@ column = [
 ]
 "#;
 
+/// Two lines for each customer, with a quantity that is null half the time, a price, their product, the customer's birth, and what is drawn.
+pub(crate) const BILLS: &str = r#"
+seed = 1
+name = "item"
+parent = "customer"
+lo = 2
+hi = 2
+column = [
+    { name = "qty", kind = "int", lo = 1, hi = 9, null = 500 },
+    { name = "price", kind = "fixed", lo = 250, hi = 250, decimals = 2 },
+    { name = "total", kind = "product", of = ["qty", "price"] },
+    { name = "born", kind = "parent", column = "born" },
+    { name = "u", kind = "uuid" },
+    { name = "word", kind = "dict", file = "one.txt" },
+]
+"#;
+
 /// Returns the plan of a schema that is accepted.
 pub(crate) fn plan_of(rt: &impl Abort, alloc: Global, text: &str) -> Plan {
     let schema = read_schema(alloc, text.as_bytes()).expect(rt, "no schema");
     check(alloc, schema, Dictionaries::new(alloc)).expect(rt, "no plan")
+}
+
+/// Makes word lists with these names and one entry each.
+pub(crate) fn word_lists(rt: &impl Abort, alloc: Global, names: &[&str]) -> Dictionaries {
+    let mut lists = Dictionaries::new(alloc);
+    for name in names {
+        let words = read_dictionary(alloc, b"Ann").expect(rt, "no word list");
+        lists.push(name, words).expect(rt, "memory");
+    }
+    lists
 }
 
 /// Joins the pieces, one after the other.

@@ -11,3 +11,5 @@ mod pack_tests;
 mod read_tests;
 #[cfg(test)]
 mod rule_tests;
+#[cfg(test)]
+mod word_list_tests;

@@ -3,10 +3,10 @@
 
 ghost use Rattle.std.specs.Prelude.{◌≡◌, ◌<◌, ◌≤◌, ℕ, get_or, length, true};
 ghost use Rattle.life_intervals.specs.Generator.{last_unit};
-ghost use Rattle.detail_plan.specs.Rules.{KeepsRules};
+ghost use Rattle.detail_plan.specs.Kept.{KeepsRules};
 ghost use Rattle.detail_rows.specs.Packages.{AreTold, born_by};
 
-use crate::fixtures::{SALES, plan_of};
+use crate::fixtures::{BILLS, SALES, plan_of, word_lists};
 use detail_plan::{DetailPlan, check_detail, read_detail};
 use detail_rows::{DetailPacker, PackedRows, parent_of};
 use life_intervals::born;
@@ -16,14 +16,14 @@ use schema_plan::Plan;
 use std::alloc::Global;
 use std::process::Abort;
 
-/// Returns the detail table that a text declares over a plan.
+/// Returns the detail table that a text declares over a plan, with a word list of one entry.
 fn declared(rt: &impl Abort, alloc: Global, plan: &Plan, text: &str) -> DetailPlan
     ensures { KeepsRules plan.now result }
 {
     let Ok(detail) = read_detail(alloc, text.as_bytes()) else {
         panic!(rt; "nothing declared");
     };
-    match check_detail(plan, detail) {
+    match check_detail(alloc, plan, detail, word_lists(rt, alloc, &["one.txt"])) {
         Ok(kept) => kept,
         Err(fault) => panic!(rt; "{fault:?}"),
     }
@@ -177,7 +177,57 @@ column = [
 ]
 "#;
 
-const CASES: [Case<'static>; 4] = [
+/// Members with a day and a number that is null now and then, and bars between the fields.
+const MEMBERS: &str = r#"
+seed = 11
+units = 6
+delimiter = "bar"
+[[table]]
+name = "member"
+rows = 2
+insert = 1
+life = [2, 4]
+update = 2
+column = [
+    { name = "id", kind = "key", base = 1 },
+    { name = "since", kind = "born_date", start = "2023-12-30", step = 31 },
+    { name = "share", kind = "fixed", lo = -999, hi = 999, decimals = 2, null = 300 },
+    { name = "twice", kind = "sum", of = ["share", "share"] },
+]
+"#;
+
+/// Dates after the member's day, sums with the member's number, and a date and a product that change.
+const VISITS: &str = r#"
+seed = 5
+name = "visit"
+parent = "member"
+lo = 0
+hi = 2
+column = [
+    { name = "since", kind = "parent", column = "since", null = 200 },
+    { name = "due", kind = "after", of = "since", lo = -3, hi = 60 },
+    { name = "paid", kind = "after", of = "due", lo = 1, hi = 400, null = 300 },
+    { name = "twice", kind = "parent", column = "twice" },
+    { name = "fee", kind = "fixed", lo = 1, hi = 99999, decimals = 3 },
+    { name = "all", kind = "sum", of = ["fee", "twice", "fee"] },
+    { name = "n", kind = "skew", lo = -2, size = 5, power = 1, changes = true, null = 100 },
+    { name = "day", kind = "date", lo = "1999-12-31", hi = "2000-01-01", changes = true },
+    { name = "next", kind = "after", of = "day", lo = 0, hi = 9, changes = true },
+    { name = "total", kind = "product", of = ["all", "n"], changes = true },
+    { name = "note", kind = "chars", alphabet = "|xé", lo = 0, hi = 3, null = 250 },
+]
+"#;
+
+const CASES: [Case<'static>; 6] = [
+    Case {
+        schema: SALES,
+        declaration: BILLS,
+        texts: &[(
+            PackedRows::All { unit: 0 },
+            b"1\t1\t2\t2.50\t5.00\t0\tb4d9412f-ef73-41bc-a1e6-cb616a250aee\tAnn\n\
+            1\t2\t\\N\t2.50\t\\N\t0\t3374a17a-f662-4f16-97fd-96d2f40196e8\tAnn\n",
+        )],
+    },
     Case {
         schema: SALES,
         declaration: ITEMS,
@@ -261,6 +311,32 @@ const CASES: [Case<'static>; 4] = [
                     ordinals: &[0, 1, 2],
                 },
                 b"1001|1\n1001|2\n1001|3\n1001|4\n1000|1\n1000|2\n1000|3\n1002|1\n1002|2\n1002|3\n",
+            ),
+        ],
+    },
+    Case {
+        schema: MEMBERS,
+        declaration: VISITS,
+        texts: &[
+            (
+                PackedRows::All { unit: 2 },
+                b"1|1|\\N|\\N|\\N|-16.50|72.802|129.104|0|2000-01-01|2000-01-08|0.000|\xc3\xa9\\|\xc3\xa9\n\
+                3|1|2024-01-30|2024-03-18|2024-09-03|-3.28|83.518|163.756|0|2000-01-01|2000-01-04|0.000|\\N\n\
+                3|2|\\N|\\N|\\N|-3.28|89.440|175.600|-2|2000-01-01|2000-01-09|-351.200|\xc3\xa9x\xc3\xa9\n",
+            ),
+            (
+                PackedRows::Lines {
+                    ordinals: &[5],
+                    unit: 5,
+                },
+                b"6|1|2024-05-02|2024-06-09|\\N|\\N|21.893|\\N|-2|2000-01-01|2000-01-02|\\N|\\|\xc3\xa9\xc3\xa9\n\
+                6|2|2024-05-02|2024-06-30|2025-07-25|\\N|5.792|\\N|-1|1999-12-31|2000-01-08|\\N|\\N\n",
+            ),
+            (PackedRows::Keys { ordinals: &[5] }, b"6|1\n6|2\n"),
+            (
+                PackedRows::Born { unit: 5 },
+                b"7|1|2024-06-02|2024-07-29|2025-01-08|14.60|99.107|212.814|-2|1999-12-31|1999-12-31|-425.628|\\N\n\
+                7|2|2024-06-02|2024-07-19|2025-05-30|14.60|77.546|169.692|-1|2000-01-01|2000-01-02|-169.692|\n",
             ),
         ],
     },

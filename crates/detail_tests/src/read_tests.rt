@@ -12,7 +12,19 @@ column = [
     { kind = "int", hi = -9223372036854775808, lo = 9223372036854775807, name = "" },
     { name = "B", kind = "pick", entries = [] },
     { name = "B", kind = "pick", entries = ["", "a\tb", "é"], changes = true },
-    { name = "c", kind = "int", lo = 1, hi = 2, changes = false },
+    { name = "c", kind = "int", lo = 1, hi = 2, step = 0, changes = false, null = -1 },
+    { name = "p", kind = "pick", entries = ["a"], weights = [2, 3], null = 7 },
+    { name = "f", kind = "fixed", lo = 5, hi = 6, decimals = 2 },
+    { name = "d", kind = "date", lo = "1970-01-02", hi = "1969-12-31" },
+    { name = "s", kind = "skew", lo = 1, size = 2, power = 3 },
+    { name = "w", kind = "words", file = "x", lo = 1, hi = 2 },
+    { name = "e", kind = "chars", alphabet = "é", lo = 1, hi = 2 },
+    { name = "u", kind = "uuid" },
+    { name = "l", kind = "dict", file = "" },
+    { name = "q", kind = "parent", column = "born" },
+    { name = "a", kind = "after", of = "d", lo = -1, hi = 1 },
+    { name = "t", kind = "sum", of = ["c", "c"] },
+    { name = "m", kind = "product", of = [], changes = true },
 ]
 parent = "None"
 name = 'no name'
@@ -23,10 +35,22 @@ seed = -7
 /// The detail table that `TEXT` declares, as `{:?}` writes it.
 const DETAIL: &str = concat!(
     r#"Detail { seed: -7, lo: 70, hi: -16, name: Text { text: "no name" }, parent: Text { text: "None" }, columns: Sequence { items: ["#,
-    r#"DetailColumn { name: Text { text: "" }, kind: Int { lo: 9223372036854775807, hi: -9223372036854775808 }, changes: false }, "#,
-    r#"DetailColumn { name: Text { text: "B" }, kind: Pick { entries: Sequence { items: [] } }, changes: false }, "#,
-    r#"DetailColumn { name: Text { text: "B" }, kind: Pick { entries: Sequence { items: [Text { text: "" }, Text { text: "a\tb" }, Text { text: "é" }] } }, changes: true }, "#,
-    r#"DetailColumn { name: Text { text: "c" }, kind: Int { lo: 1, hi: 2 }, changes: false }"#,
+    r#"DetailColumn { name: Text { text: "" }, kind: Leaf(Int { lo: 9223372036854775807, hi: -9223372036854775808, step: 1 }), changes: false, null: 0 }, "#,
+    r#"DetailColumn { name: Text { text: "B" }, kind: Leaf(Pick { entries: Sequence { items: [] }, weights: Sequence { items: [] } }), changes: false, null: 0 }, "#,
+    r#"DetailColumn { name: Text { text: "B" }, kind: Leaf(Pick { entries: Sequence { items: [Text { text: "" }, Text { text: "a\tb" }, Text { text: "é" }] }, weights: Sequence { items: [1, 1, 1] } }), changes: true, null: 0 }, "#,
+    r#"DetailColumn { name: Text { text: "c" }, kind: Leaf(Int { lo: 1, hi: 2, step: 0 }), changes: false, null: -1 }, "#,
+    r#"DetailColumn { name: Text { text: "p" }, kind: Leaf(Pick { entries: Sequence { items: [Text { text: "a" }] }, weights: Sequence { items: [2, 3] } }), changes: false, null: 7 }, "#,
+    r#"DetailColumn { name: Text { text: "f" }, kind: Leaf(Fixed { lo: 5, hi: 6, decimals: 2 }), changes: false, null: 0 }, "#,
+    r#"DetailColumn { name: Text { text: "d" }, kind: Leaf(Date { lo: 1, hi: -1 }), changes: false, null: 0 }, "#,
+    r#"DetailColumn { name: Text { text: "s" }, kind: Leaf(Skew { lo: 1, size: 2, power: 3 }), changes: false, null: 0 }, "#,
+    r#"DetailColumn { name: Text { text: "w" }, kind: Leaf(Words { file: Text { text: "x" }, lo: 1, hi: 2 }), changes: false, null: 0 }, "#,
+    r#"DetailColumn { name: Text { text: "e" }, kind: Leaf(Chars { alphabet: Text { text: "é" }, lo: 1, hi: 2 }), changes: false, null: 0 }, "#,
+    r#"DetailColumn { name: Text { text: "u" }, kind: Leaf(Uuid), changes: false, null: 0 }, "#,
+    r#"DetailColumn { name: Text { text: "l" }, kind: Leaf(Dict { file: Text { text: "" } }), changes: false, null: 0 }, "#,
+    r#"DetailColumn { name: Text { text: "q" }, kind: Parent { column: Text { text: "born" } }, changes: false, null: 0 }, "#,
+    r#"DetailColumn { name: Text { text: "a" }, kind: After { of: Text { text: "d" }, lo: -1, hi: 1 }, changes: false, null: 0 }, "#,
+    r#"DetailColumn { name: Text { text: "t" }, kind: Sum { of: Sequence { items: [Text { text: "c" }, Text { text: "c" }] } }, changes: false, null: 0 }, "#,
+    r#"DetailColumn { name: Text { text: "m" }, kind: Product { of: Sequence { items: [] } }, changes: true, null: 0 }"#,
     "] } }",
 );
 
@@ -112,11 +136,13 @@ fn each_key_is_required_and_of_its_type(rt: HostRuntime) {
 }
 
 /// Columns that follow the front, and whether their keys are right.
-const COLUMNS: [(&str, bool); 12] = [
+const COLUMNS: [(&str, bool); 28] = [
     ("name='c'\nkind='int'\nlo=1\nhi=1\n", true),
     ("name='c'\nkind='int'\nlo=1\nhi=1\nchanges=1\n", false),
     ("name='c'\nkind='int'\nlo=1\nhi=1\nentries=['a']\n", false),
-    ("name='c'\nkind='int'\nlo=1\nhi=1\nnull=0\n", false),
+    ("name='c'\nkind='int'\nlo=1\nhi=1\nnull=0\n", true),
+    ("name='c'\nkind='int'\nlo=1\nhi=1\nnull='0'\n", false),
+    ("name='c'\nkind='int'\nlo=1\nhi=1\nstep='1'\n", false),
     ("name='c'\nkind='pick'\nentries=['a']\n", true),
     (
         "name='c'\nkind='pick'\nentries=['a']\nchanges='true'\n",
@@ -124,10 +150,30 @@ const COLUMNS: [(&str, bool); 12] = [
     ),
     ("name='c'\nkind='pick'\nentries=['a']\nlo=1\n", false),
     ("name='c'\nkind='pick'\nentries=['a', 1]\n", false),
-    ("name='c'\nkind='pick'\nentries=['a']\nweights=[1]\n", false),
+    ("name='c'\nkind='pick'\nentries=['a']\nweights=[1]\n", true),
+    (
+        "name='c'\nkind='pick'\nentries=['a']\nweights=['1']\n",
+        false,
+    ),
     ("name='c'\nkind='Int'\nlo=1\nhi=1\n", false),
     ("name='c'\nkind='words'\nlo=1\nhi=1\n", false),
     ("name='c'\nkind='pick'\nentries=['a']\n[further]\n", false),
+    ("name='c'\nkind='uuid'\n", true),
+    ("name='c'\nkind='uuid'\nlo=1\n", false),
+    (
+        "name='c'\nkind='date'\nlo='2024-02-30'\nhi='2024-03-01'\n",
+        false,
+    ),
+    ("name='c'\nkind='parent'\n", false),
+    ("name='c'\nkind='parent'\ncolumn=1\n", false),
+    ("name='c'\nkind='parent'\ncolumn='id'\nvia='x'\n", false),
+    ("name='c'\nkind='after'\nlo=1\nhi=1\n", false),
+    ("name='c'\nkind='sum'\nof='c'\n", false),
+    ("name='c'\nkind='product'\nof=['c', 1]\n", false),
+    ("name='c'\nkind='born'\n", false),
+    ("name='c'\nkind='template'\nparts=['a']\n", false),
+    ("name='c'\nkind='lookup'\nvia='a'\ncolumn='b'\n", false),
+    ("name='c'\nkind='list'\nfile='a'\n", false),
 ];
 
 /// Whole texts that are no document or have a wrong key.

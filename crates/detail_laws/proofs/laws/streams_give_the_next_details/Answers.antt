@@ -4,7 +4,7 @@ use Rattle.detail_laws.proofs.laws.streams_give_the_next_details.Goals as goal
 
 pub returns : goal.returns
 returns c = record {
-  text = λ plan limits detail keeps t within. text-applied plan limits detail keeps (delimits plan) t within;
-  unit = λ plan limits detail keeps t some within. unit-applied plan limits detail keeps (delimits plan) t some within;
-  units = λ plan limits detail keeps from count within. units-applied plan limits detail keeps (delimits plan) from count within;
+  text = λ plan limits kept keeps t within. text-applied plan limits kept keeps (delimits plan) t within;
+  unit = λ plan limits kept keeps t some within. unit-applied plan limits kept keeps (delimits plan) t some within;
+  units = λ plan limits kept keeps from count within. units-applied plan limits kept keeps (delimits plan) from count within;
 }

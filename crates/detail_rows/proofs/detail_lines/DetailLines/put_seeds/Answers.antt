@@ -1,49 +1,44 @@
-use Rattle.std.proofs.Common.{◌≡◌, ◌<◌, ◌∙◌, ℕ, List, [], false, ap, arith, get_or, length, pos}
-use Rattle.std.proofs.lemmas.List.{get_or_default}
+use Rattle.std.proofs.Common.{◌≡◌, ◌<◌, ◌∙◌, ℕ, List, ap, arith, get_or, if◌then◌else◌, length, subst}
 use Rattle.std.proofs.lemmas.List.FromFn.{get_or-map-range_with_len, length-map-range_with_len}
-use Rattle.detail_plan.specs.declared.detail.Detail.{Detail}
-use Rattle.detail_plan.specs.declared.detail.DetailColumn.{DetailColumn}
-use Rattle.detail_plan.specs.declared.detail.DetailKind.TheVariants.{Int}
 use Rattle.philox_seeds.specs.SeedTree.{column_seed, unit_seed}
-use Rattle.detail_rows.specs.Lines.{column_at}
-use Rattle.detail_rows.specs.Told.{detail_seed, told_unit}
+use Rattle.schema_plan.specs.declared.ready.ReadyColumn.{ReadyColumn}
+use Rattle.schema_plan.specs.Layout.{column_at}
+use Rattle.draw_values.specs.Values.{draw_unit}
+use Rattle.detail_plan.specs.Kept.{KeepsRules}
+use Rattle.detail_plan.specs.Limits.{IsInLimits}
+use Rattle.detail_rows.specs.Made.{LinesOver, columns_over, detail_seed, own_over, told_at}
+use Rattle.detail_rows.proofs.ColumnLemmas.{ready_at}
 use Rattle.detail_rows.proofs.TextLemmas.{set-more}
 use Rattle.detail_rows.proofs.detail_lines.DetailLines.put_seeds.Goals as goal
-use Rattle.detail_rows.proofs.detail_lines.DetailLines.put_seeds.Goals.{After-seeds-columns_seeds}
-
-abbrev no_column : DetailColumn
-no_column = record { name = []; kind = Int (pos 0) (pos 0); changes = false }
-
-columns_are : (c : After-seeds-columns_seeds) → c.as_slice-columns.result.now ≡ c.args.self.now.detail.columns
-columns_are c = c.as_slice-columns.ensures ∙ ap (λ (detail : Detail). detail.columns) c.declared.ensures.value
 
 pub bounds-columns_seeds-column : goal.bounds-columns_seeds-column
 bounds-columns_seeds-column c =
-    let here = (goal.at.bounds-columns_seeds-column c).After-seeds-columns_seeds in
     omega (
       arith,
       ap (length {A = ℕ}) c.seeds-columns_seeds.ensures,
-      length-map-range_with_len (column_seed (detail_seed c.args.self.now.detail)) 0 (length c.args.self.now.detail.columns),
+      length-map-range_with_len (column_seed (detail_seed c.args.self.now.kept)) 0 (own_over c.args.self.now),
       c.loop-column-test.true,
-      ap (length {A = DetailColumn}) (columns_are here),
+      c.columns-column-end.ensures.many,
     )
 
 pub loop-column-preserved : goal.loop-column-preserved
 loop-column-preserved c =
-    let here = (goal.at.loop-column-preserved c).After-seeds-columns_seeds in
-    let detail : Detail = c.args.self.now.detail in
+    let over : LinesOver = c.args.self.now in
     let column : ℕ = c.loop-column.column in
-    let within : column < length detail.columns = omega (arith, c.loop-column-test.true, ap (length {A = DetailColumn}) (columns_are here)) in
-    let declared : c.index-columns-column.result ≡ column_at detail column =
+    let within : column < own_over over = omega (arith, c.loop-column-test.true, c.columns-column-end.ensures.many) in
+    let keeps = subst (λ (o : LinesOver). KeepsRules o.plan o.kept) c.self.view_is c.self.invariant.keeps in
+    let limits = subst (λ (o : LinesOver). IsInLimits o.kept.lists o.kept.detail) c.self.view_is c.self.invariant.limits in
+    let ready =
     c.index-columns-column.is
-    ∙ ap (λ (columns : List DetailColumn). get_or columns column c.index-columns-column.result) (columns_are here)
-    ∙ get_or_default detail.columns column c.index-columns-column.result no_column within in
-    let seed : get_or c.seeds-columns_seeds.result.now column 0 ≡ column_seed (detail_seed detail) column =
+    ∙ ap (λ (columns : List ReadyColumn). get_or columns column c.index-columns-column.result) (c.columns-columns.ensures ∙ ap (λ (o : LinesOver). o.kept.columns) c.self.view_is)
+    ∙ ready_at over.plan over.kept keeps limits column c.index-columns-column.result within in
+    let seed : get_or c.seeds-columns_seeds.result.now column 0 ≡ column_seed (detail_seed over.kept) column =
     ap (λ (seeds : List ℕ). get_or seeds column 0) c.seeds-columns_seeds.ensures
-    ∙ get_or-map-range_with_len (column_seed (detail_seed detail)) 0 (length detail.columns) column column 0 within (omega arith) in
-    set-more (λ (column : ℕ). unit_seed (column_seed (detail_seed detail) column) (told_unit (column_at detail column) c.args.row.now))
+    ∙ get_or-map-range_with_len (column_seed (detail_seed over.kept)) 0 (own_over over) column column 0 within (omega arith) in
+    set-more (λ (place : ℕ). unit_seed (column_seed (detail_seed over.kept) place) (draw_unit (column_at (columns_over over) place) (told_at c.args.row.now)))
     c.loop-column.seeds column c.unit_seed.result (omega (arith, within, c.loop-column.auto.seeds, c.requires))
     (c.unit_seed.ensures.seed
     ∙ ap (λ (n : ℕ). unit_seed n c.draw_unit-unit.result) seed
-    ∙ ap (λ (unit : ℕ). unit_seed (column_seed (detail_seed detail) column) unit) (c.draw_unit-unit.ensures ∙ ap (λ (one : DetailColumn). told_unit one c.args.row.now) declared))
+    ∙ ap (λ (unit : ℕ). unit_seed (column_seed (detail_seed over.kept) column) unit)
+    (c.draw_unit-unit.ensures ∙ ap (λ (one : ReadyColumn). if one.changes then c.args.row.now.changed else c.args.row.now.born) ready))
     c.loop-column.invariant

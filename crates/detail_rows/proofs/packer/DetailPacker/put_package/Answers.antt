@@ -1,6 +1,5 @@
 use Rattle.std.proofs.Common.{◌≡◌, ◌<◌, ◌≤◌, ◌+◌, ◌-◌, ◌*◌, ℕ, ap, arith, length, min, subst}
 use Rattle.std.proofs.Math.Nat.{add-mul, mul-le-mul_right}
-use Rattle.detail_plan.specs.Rules.{reach_of}
 use Rattle.detail_rows.proofs.PackageLemmas.{package-begins}
 use Rattle.detail_rows.specs.Packages.{Packages, count_of, package_count, range_text, room_of, rows_in, text_numbered}
 use Rattle.detail_rows.proofs.packer.DetailPacker.put_package.Goals as goal
@@ -24,8 +23,8 @@ put_range-requires-clause-room g c =
     let few : c.min-end.result - c.args.n * self.size ≤ min self.size self.many = omega (arith, begins g (goal.at.put_range-requires-clause-room g c).After-self) in
     omega (
       arith,
-      mul-le-mul_right (reach_of self.lines.plan self.lines.detail) few,
-      ap (λ (many : ℕ). min self.size many * reach_of self.lines.plan self.lines.detail) c.self.invariant.many_are,
+      mul-le-mul_right (self.lines.kept.reach) few,
+      ap (λ (many : ℕ). min self.size many * self.lines.kept.reach) c.self.invariant.many_are,
       ap room_of c.self.view_is,
       c.requires.room,
     )
@@ -34,15 +33,15 @@ pub returns-clause-size : goal.returns-clause-size
 returns-clause-size g c =
     let self = c.self.inside in
     let plan = self.lines.plan in
-    let detail = self.lines.detail in
+    let kept = self.lines.kept in
     let first : ℕ = c.args.n * self.size in
     let few : c.min-end.result - first ≤ min self.size self.many = omega (arith, begins g (goal.at.returns-clause-size g c).After-self) in
-    let end : c.min-end.result ≡ min (rows_in plan detail self.told) ((c.args.n + 1) * self.size) = omega (arith, c.self.invariant.many_are, add-mul c.args.n 1 self.size) in
+    let end : c.min-end.result ≡ min (rows_in plan kept self.told) ((c.args.n + 1) * self.size) = omega (arith, c.self.invariant.many_are, add-mul c.args.n 1 self.size) in
     subst (λ (p : Packages). length (text_numbered p c.args.n) ≤ room_of p) c.self.view_is
-    (subst (λ (last : ℕ). length (range_text plan detail self.told first last) ≤ min self.size (rows_in plan detail self.told) * reach_of plan detail) end
+    (subst (λ (last : ℕ). length (range_text plan kept self.told first last) ≤ min self.size (rows_in plan kept self.told) * kept.reach) end
     (omega (
       arith,
       c.put_range.ensures.size,
-      mul-le-mul_right (reach_of plan detail) few,
-      ap (λ (many : ℕ). min self.size many * reach_of plan detail) c.self.invariant.many_are,
+      mul-le-mul_right kept.reach few,
+      ap (λ (many : ℕ). min self.size many * kept.reach) c.self.invariant.many_are,
     )))

@@ -28,7 +28,7 @@ put_births-requires-clause-rows g c = λ i below.
 
 pub returns-clause-living : goal.returns-clause-living
 returns-clause-living g c =
-    let live : ℕ → Bool = is_live (generator_of c.args.self.now.plan) (parent_place c.args.self.now.plan c.args.self.now.detail) c.args.t in
+    let live : ℕ → Bool = is_live (generator_of c.args.self.now.plan) (parent_place c.args.self.now.plan c.args.self.now.kept.detail) c.args.t in
     c.keep.ensures.kept
     ∙ ap (λ (flags : List Bool). kept_by flags c.put_range.new.list) c.put_lives.ensures
     ∙ kept-filter live c.put_range.new.list

@@ -1,5 +1,4 @@
 use Rattle.std.proofs.Common.{◌≡◌, ◌≤◌, ◌-◌, ◌*◌, ◌++◌, length}
-use Rattle.detail_plan.specs.Rules.{reach_of}
 use Rattle.detail_rows.specs.declared.detail_lines.LineKind.TheVariants.{Whole}
 use Rattle.detail_rows.specs.Packages.{listed_text, living_from}
 use Rattle.detail_rows.proofs.parent_lines.ParentLines.put_living.Given as goal
@@ -7,8 +6,8 @@ use Rattle.detail_rows.proofs.parent_lines.ParentLines.put_living.Given as goal
 abbrev pub invariant-loop-done : goal.invariant-loop-done
 invariant-loop-done g l = record {
   within : l.done ≤ l.count;
-  text : l.page ≡ record { text = l.fn.page.text ++ listed_text l.self.plan l.self.detail Whole l.t (living_from l.self.plan l.self.detail l.t l.first l.done); room = l.fn.page.room };
-  size : length (listed_text l.self.plan l.self.detail Whole l.t (living_from l.self.plan l.self.detail l.t l.first l.done)) ≤ l.done * reach_of l.self.plan l.self.detail;
+  text : l.page ≡ record { text = l.fn.page.text ++ listed_text l.self.plan l.self.kept Whole l.t (living_from l.self.plan l.self.kept l.t l.first l.done); room = l.fn.page.room };
+  size : length (listed_text l.self.plan l.self.kept Whole l.t (living_from l.self.plan l.self.kept l.t l.first l.done)) ≤ l.done * l.self.kept.reach;
 }
 
 abbrev pub decreases-loop-done : goal.decreases-loop-done

@@ -1,30 +1,25 @@
-use Rattle.std.proofs.Common.{◌≡◌, ◌<◌, ◌*◌, ◌++◌, ℕ, List, ap, arith, length, ◌∙◌, subst}
-use Rattle.schema_plan.specs.Dictionaries.{Project}
-use Rattle.detail_plan.specs.declared.detail.Detail.{Detail}
-use Rattle.detail_plan.specs.Rules.{reach_by}
+use Rattle.std.proofs.Common.{◌≡◌, ◌*◌, ◌++◌, ℕ, List, ap, arith, length, ◌∙◌}
+use Rattle.detail_rows.specs.declared.detail_lines.LineKind.{LineKind}
+use Rattle.detail_rows.specs.declared.parent_row.ParentRows.{ParentRows}
+use Rattle.detail_rows.specs.Made.{LinesOver, made_rows}
 use Rattle.detail_rows.specs.Packages.{listed_text}
-use Rattle.detail_rows.specs.Told.{LinesBy, first_rows}
-use Rattle.detail_rows.proofs.ParentLemmas.{rows-told}
+use Rattle.detail_rows.proofs.ParentLemmas.{rows-listed}
 use Rattle.detail_rows.proofs.parent_lines.ParentLines.put_told.Goals as goal
-use Rattle.detail_rows.proofs.parent_lines.ParentLines.put_told.Goals.{After-lines}
 
-pub put_rows-requires-clause-ordinals : goal.put_rows-requires-clause-ordinals
-put_rows-requires-clause-ordinals c = λ k below. omega (arith, c.requires.rows k below, c.born-most.ensures.count, c.born-most.ensures.limit)
-
-text_is : (c : After-lines) → first_rows c.lines.result.now c.args.kind c.args.told.now (length c.args.told.now.ordinals.now) ≡ listed_text c.args.self.now.plan c.args.self.now.detail c.args.kind c.args.t c.args.told.now.ordinals.now
-text_is c =
-    let plan : Project = c.args.self.now.plan in
-    let detail : Detail = c.args.self.now.detail in
-    ap (λ (lines : LinesBy). first_rows lines c.args.kind c.args.told.now (length c.args.told.now.ordinals.now)) c.lines.ensures.value
-    ∙ rows-told plan detail c.args.t c.requires.unit (subst (λ (place : ℕ). place < length plan.schema.tables) c.table-place.ensures.place c.table-place.ensures.within) c.args.kind c.args.told.now
-    c.requires.run c.requires.rows c.requires.keys c.requires.changes
-
-pub put_rows-requires-clause-room : goal.put_rows-requires-clause-room
-put_rows-requires-clause-room c =
-    omega (arith, c.requires.room, ap (λ (lines : LinesBy). length c.args.told.now.ordinals.now * reach_by lines.delimiter lines.detail) c.lines.ensures.value)
+-- the lines of the rows are those that are listed
+text_is : (made over : LinesOver) (kind : LineKind) (unit : ℕ) (rows : ParentRows) → made ≡ over → made_rows made kind unit rows (length rows.ordinals.now) ≡ listed_text over.plan over.kept kind unit rows.ordinals.now
+text_is made over kind unit rows is = ap (λ (lines : LinesOver). made_rows lines kind unit rows (length rows.ordinals.now)) is ∙ rows-listed over kind unit rows
 
 pub returns-clause-text : goal.returns-clause-text
-returns-clause-text c = c.put_rows.ensures.text ∙ ap (λ (text : List ℕ). record { text = c.args.page.now.text ++ text; room = c.args.page.now.room }) (text_is (goal.at.returns-clause-text c).After-lines)
+returns-clause-text g c =
+    c.put_rows.ensures.text
+    ∙ ap (λ (text : List ℕ). record { text = c.args.page.now.text ++ text; room = c.args.page.now.room }) (text_is c.lines.result.now c.args.self.now c.args.kind c.args.t c.args.told.now c.lines.ensures.value)
 
 pub returns-clause-size : goal.returns-clause-size
-returns-clause-size c = omega (arith, ap (λ (text : List ℕ). length text) (text_is (goal.at.returns-clause-size c).After-lines), c.put_rows.ensures.size, ap (λ (lines : LinesBy). length c.args.told.now.ordinals.now * reach_by lines.delimiter lines.detail) c.lines.ensures.value)
+returns-clause-size g c =
+    omega (
+      arith,
+      ap (λ (text : List ℕ). length text) (text_is c.lines.result.now c.args.self.now c.args.kind c.args.t c.args.told.now c.lines.ensures.value),
+      ap (λ (lines : LinesOver). length c.args.told.now.ordinals.now * lines.kept.reach) c.lines.ensures.value,
+      c.put_rows.ensures.size,
+    )
