@@ -1,91 +1,61 @@
-//! Hints on the keys of a declaration of a detail table.
+//! Hints on a declaration of a detail table: its keys and its rules.
 
-use crate::keys::{list_at, put_syntax, put_value};
+use crate::keys::{list_at, put_expected, put_syntax, put_value};
 use crate::lines::{Spot, line_of, put_line};
 use crate::schema::{put_no_utf8, text_of};
 use pd_outside::Library;
-use schema_read::Place;
+use schema_read::{Expected, KindName, Place, SchemaKey, Wanted, keys_of_kind, leaf_of_name};
 use std::alloc::{AllocError, Global};
 use toml::{Table, Value};
 
-/// What the value of a key must be.
-#[derive(Clone, Copy)]
-enum Form {
-    Whole,
-    Text,
-    Flag,
-    Texts,
-    Tables,
-}
-
-/// A key, and what its value must be.
-#[derive(Clone, Copy)]
-struct Key {
-    name: &'static str,
-    form: Form,
-}
-
 /// The keys of the document, in order.
-const TOP_KEYS: [Key; 6] = [
-    Key {
-        name: "seed",
-        form: Form::Whole,
-    },
-    Key {
-        name: "name",
-        form: Form::Text,
-    },
-    Key {
-        name: "parent",
-        form: Form::Text,
-    },
-    Key {
-        name: "lo",
-        form: Form::Whole,
-    },
-    Key {
-        name: "hi",
-        form: Form::Whole,
-    },
-    Key {
-        name: "column",
-        form: Form::Tables,
-    },
+const TOP_KEYS: [Wanted; 6] = [
+    Wanted::Required(SchemaKey::Seed, Expected::Whole),
+    Wanted::Required(SchemaKey::Name, Expected::TextValue),
+    Wanted::Required(SchemaKey::Parent, Expected::TextValue),
+    Wanted::Required(SchemaKey::Lo, Expected::Whole),
+    Wanted::Required(SchemaKey::Hi, Expected::Whole),
+    Wanted::Required(SchemaKey::Column, Expected::TableList),
 ];
 
-/// The keys of a column of any kind. All but `changes` are needed.
-const COLUMN_KEYS: [Key; 3] = [
-    Key {
-        name: "name",
-        form: Form::Text,
-    },
-    Key {
-        name: "kind",
-        form: Form::Text,
-    },
-    Key {
-        name: "changes",
-        form: Form::Flag,
-    },
+/// The keys of a column of any kind.
+const COLUMN_KEYS: [Wanted; 4] = [
+    Wanted::Required(SchemaKey::Name, Expected::TextValue),
+    Wanted::Required(SchemaKey::Kind, Expected::TextValue),
+    Wanted::Optional(SchemaKey::Changes, Expected::Flag),
+    Wanted::Optional(SchemaKey::Null, Expected::Whole),
 ];
 
-/// The keys of a column of numbers.
-const INT_KEYS: [Key; 2] = [
-    Key {
-        name: "lo",
-        form: Form::Whole,
-    },
-    Key {
-        name: "hi",
-        form: Form::Whole,
-    },
-];
+/// The key of a column that shows one of the parent.
+const PARENT_KEYS: [Wanted; 1] = [Wanted::Required(SchemaKey::Column, Expected::TextValue)];
 
-/// The keys of a column of entries.
-const PICK_KEYS: [Key; 1] = [Key {
-    name: "entries",
-    form: Form::Texts,
-}];
+/// The kinds that a column can have.
+const KINDS: &str =
+    "int, fixed, date, pick, skew, dict, words, chars, uuid, parent, after, sum, product";
+
+/// Returns a rule in one sentence, by its number in messages.
+fn rule_words(number: &str) -> &'static str {
+    match number {
+        "1" => "`seed` is at least 0, and no table of the schema has this `name`",
+        "2" => "`parent` names a table of the schema",
+        "3" => "`lo` is 0 to `hi`, and `hi` is 1 to 64",
+        "4" =>
+            "there are 1 to 32 columns with different names, each within the limits of its kind; `of` names earlier columns of the file, and a `parent` shows a column that doesn't move and is no lookup",
+        "5" =>
+            "the lines of one row have at most 65,536 bytes together, by the greatest sizes of their fields",
+        "6" => "names of word lists have 1 to 255 bytes, and at most 64 differ",
+        _ => "",
+    }
+}
+
+/// Appends the rule that a declaration breaks.
+pub(crate) fn put_details_rule(
+    name: &str,
+    number: &str,
+    hints: &mut String,
+) -> Result<(), AllocError> {
+    writeln!(hints, "hint: {name:?}: {}", rule_words(number))
+}
 
 /// Appends what is wrong with the form of the declaration in a file.
 pub(crate) fn put_details_hints<L: Library>(
@@ -107,31 +77,51 @@ pub(crate) fn put_details_hints<L: Library>(
     }
 }
 
-/// Whether a value is of a form.
-fn fits(form: Form, value: &Value) -> bool {
-    match form {
-        Form::Whole => value.is_integer(),
-        Form::Text => value.is_str(),
-        Form::Flag => value.is_bool(),
-        Form::Texts => match value {
+/// Whether a value is what a key wants, as far as its type tells.
+fn fits(expected: Expected, value: &Value) -> bool {
+    match expected {
+        Expected::Whole => value.is_integer(),
+        Expected::Flag => value.is_bool(),
+        Expected::TextList => match value {
             Value::Array(items) => items.as_slice().iter().all(|item| item.is_str()),
             _ => false,
         },
-        Form::Tables => match value {
+        Expected::Wholes => match value {
+            Value::Array(items) => items.as_slice().iter().all(|item| item.is_integer()),
+            _ => false,
+        },
+        Expected::TableList => match value {
             Value::Array(items) => items.as_slice().iter().all(|item| item.is_table()),
             _ => false,
         },
+        _ => value.is_str(),
     }
 }
 
-/// Returns what a form is called.
-fn form_words(form: Form) -> &'static str {
-    match form {
-        Form::Whole => "a whole number, such as 7",
-        Form::Text => "a text in quotes, such as \"item\"",
-        Form::Flag => "true or false, without quotes",
-        Form::Texts => "texts in brackets, such as [\"a\", \"b\"]",
-        Form::Tables => "columns, each under [[column]]",
+/// Appends what may stand at a key.
+fn put_sample(expected: Expected, hints: &mut String) -> Result<(), AllocError> {
+    match expected {
+        Expected::TableList => hints.push_str("hint: write columns, each under [[column]]\n"),
+        _ => put_expected(expected, hints),
+    }
+}
+
+/// Whether a name is that of a kind that a column can have.
+fn is_kind(name: &str) -> bool {
+    KINDS.split(", ").any(|kind| kind == name)
+}
+
+/// Returns the keys of a kind, beside those of any kind.
+fn own_keys(kind: &str) -> &'static [Wanted] {
+    match kind {
+        "parent" => &PARENT_KEYS,
+        "after" => keys_of_kind(KindName::After),
+        "sum" => keys_of_kind(KindName::Sum),
+        "product" => keys_of_kind(KindName::Product),
+        _ => match leaf_of_name(kind) {
+            Some(leaf) => keys_of_kind(KindName::Leaf(leaf)),
+            None => &[],
+        },
     }
 }
 
@@ -174,11 +164,14 @@ fn put_wrong_column(
     hints: &mut String,
 ) -> Result<bool, AllocError> {
     match members.get("kind") {
-        Some(Value::String(kind)) => match kind.as_str() {
-            "int" => put_wrong_in(text, spot, members, &COLUMN_KEYS, &INT_KEYS, hints),
-            "pick" => put_wrong_in(text, spot, members, &COLUMN_KEYS, &PICK_KEYS, hints),
-            name => put_other_kind(text, spot, name, hints),
-        },
+        Some(Value::String(kind)) => {
+            let name = kind.as_str();
+            if is_kind(name) {
+                put_wrong_in(text, spot, members, &COLUMN_KEYS, own_keys(name), hints)
+            } else {
+                put_other_kind(text, spot, name, hints)
+            }
+        }
         _ => put_wrong_in(text, spot, members, &COLUMN_KEYS, &[], hints),
     }
 }
@@ -192,7 +185,7 @@ fn put_other_kind(
 ) -> Result<bool, AllocError> {
     write!(hints, "hint: kind {kind:?}")?;
     put_line(line_in(text, spot, "kind"), hints)?;
-    hints.push_str(": the kinds of a detail table are int and pick\n")?;
+    writeln!(hints, ": the kinds of a detail table are {KINDS}")?;
     Ok(true)
 }
 
@@ -209,14 +202,15 @@ fn put_wrong_in(
     text: &str,
     spot: Spot,
     members: &Table,
-    common: &[Key],
-    own: &[Key],
+    common: &[Wanted],
+    own: &[Wanted],
     hints: &mut String,
 ) -> Result<bool, AllocError> {
-    for key in common.iter().chain(own.iter()) {
-        if !is_right(members, key) {
-            put_value(key.name, members, line_in(text, spot, key.name), hints)?;
-            writeln!(hints, "hint: write {}", form_words(key.form))?;
+    for wanted in common.iter().chain(own.iter()) {
+        if !is_right(members, *wanted) {
+            let name = wanted.key().name();
+            put_value(name, members, line_in(text, spot, name), hints)?;
+            put_sample(wanted.expected(), hints)?;
             return Ok(true);
         }
     }
@@ -233,20 +227,20 @@ fn put_wrong_in(
 }
 
 /// Whether a place has a key right.
-fn is_right(members: &Table, key: &Key) -> bool {
-    match members.get(key.name) {
-        Some(value) => fits(key.form, value),
-        None => key.name == "changes",
+fn is_right(members: &Table, wanted: Wanted) -> bool {
+    match members.get(wanted.key().name()) {
+        Some(value) => fits(wanted.expected(), value),
+        None => wanted.may_be_missing(),
     }
 }
 
 /// Whether a name is that of one of some keys.
-fn is_known(keys: &[Key], name: &str) -> bool {
-    keys.iter().any(|key| key.name == name)
+fn is_known(keys: &[Wanted], name: &str) -> bool {
+    keys.iter().any(|wanted| wanted.key().name() == name)
 }
 
 /// Appends the keys that have a place, after one that has none.
-fn put_known(common: &[Key], own: &[Key], hints: &mut String) -> Result<(), AllocError> {
+fn put_known(common: &[Wanted], own: &[Wanted], hints: &mut String) -> Result<(), AllocError> {
     hints.push_str(": the keys here are")?;
     put_names(common, true, hints)?;
     put_names(own, common.is_empty(), hints)?;
@@ -254,11 +248,11 @@ fn put_known(common: &[Key], own: &[Key], hints: &mut String) -> Result<(), Allo
 }
 
 /// Appends the names of some keys, with a comma before each but the first one.
-fn put_names(keys: &[Key], is_first: bool, hints: &mut String) -> Result<(), AllocError> {
+fn put_names(keys: &[Wanted], is_first: bool, hints: &mut String) -> Result<(), AllocError> {
     let mut is_first = is_first;
-    for key in keys {
+    for wanted in keys {
         hints.push_str(if is_first { " " } else { ", " })?;
-        hints.push_str(key.name)?;
+        hints.push_str(wanted.key().name())?;
         is_first = false;
     }
     Ok(())

@@ -2,8 +2,8 @@
 
 ghost use Rattle.std.specs.Prelude.{◌≡◌};
 
-use crate::details::put_details_hints;
-use crate::files::{put_store_hints, put_too_long, put_unread, put_unwritten};
+use crate::details::{put_details_hints, put_details_rule};
+use crate::files::{put_store_hints, put_too_long, put_unread, put_unwritten, put_wrong_list};
 use crate::range::put_range;
 use crate::schema::put_schema_hints;
 use crate::usage::put_usage;
@@ -80,12 +80,30 @@ fn put_hints_of_request<L: Library>(
         3 if ended.behind("details:").is_some() => {
             put_details_hints(alloc, request.spec.as_str(), library, hints)
         }
-        3 | 4 => put_schema_hints(alloc, request.schema.as_str(), library, hints),
-        5 => put_unread(alloc, ended, request.schema.as_str(), library, hints),
+        4 => put_refused_content(alloc, ended, request, library, hints),
+        3 => put_schema_hints(alloc, request.schema.as_str(), library, hints),
+        5 => put_unread(alloc, ended, request, library, hints),
         6 => put_unwritten(ended, hints),
         8 => put_range(alloc, ended, request, library, hints),
         10 => put_too_long(alloc, ended, request, library, hints),
         12 => put_store_hints(request.store.as_str(), library, hints),
         _ => Ok(()),
+    }
+}
+
+/// Appends the hints of a run with a broken rule or a wrong word list.
+fn put_refused_content<L: Library>(
+    alloc: Global,
+    ended: &Ended<'_>,
+    request: &Request,
+    library: &mut L,
+    hints: &mut String,
+) -> Result<(), AllocError> {
+    if let Some(number) = ended.behind("rule E") {
+        return put_details_rule(request.spec.as_str(), number, hints);
+    }
+    match ended.behind("dictionary ") {
+        Some(fault) => put_wrong_list(alloc, fault, request, library, hints),
+        None => put_schema_hints(alloc, request.schema.as_str(), library, hints),
     }
 }

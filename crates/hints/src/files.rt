@@ -1,7 +1,7 @@
 //! Hints on files that couldn't be read or written, and on stores.
 
 use crate::Ended;
-use crate::schema::cited_in;
+use crate::schema::{list_numbered, lists_of};
 use pd_outside::Library;
 use request_words::Request;
 use schema_model::Texts;
@@ -12,10 +12,11 @@ use system_files::LastFault;
 pub(crate) fn put_unread<L: Library>(
     alloc: Global,
     ended: &Ended<'_>,
-    schema: &str,
+    request: &Request,
     library: &mut L,
     hints: &mut String,
 ) -> Result<(), AllocError> {
+    let schema = request.schema.as_str();
     let Some(fault) = ended.fault else {
         return Ok(());
     };
@@ -26,7 +27,7 @@ pub(crate) fn put_unread<L: Library>(
     if name == schema {
         return Ok(());
     }
-    match cited_in(alloc, schema, library) {
+    match lists_of(alloc, request, library) {
         Some(cited) => {
             if is_among(&cited, name) {
                 put_word_list(alloc, schema, name, library, hints)?;
@@ -100,7 +101,7 @@ pub(crate) fn put_too_long<L: Library>(
         "schema" => put_longer(request.schema.as_str(), "1,048,576 bytes", hints),
         "details" => put_longer(request.spec.as_str(), "1,048,576 bytes", hints),
         _ => match what.strip_prefix("dictionary ") {
-            Some(number) => put_longer_list(alloc, request.schema.as_str(), number, library, hints),
+            Some(number) => put_longer_list(alloc, request, number, library, hints),
             None => put_longer(
                 what,
                 "268,435,456 bytes, together with the inputs before it",
@@ -118,20 +119,31 @@ fn put_longer(name: &str, limit: &str, hints: &mut String) -> Result<(), AllocEr
 /// Appends that the word list of this number has more bytes than it can have.
 fn put_longer_list<L: Library>(
     alloc: Global,
-    schema: &str,
+    request: &Request,
     number: &str,
     library: &mut L,
     hints: &mut String,
 ) -> Result<(), AllocError> {
-    let Some(cited) = cited_in(alloc, schema, library) else {
+    match list_numbered(alloc, request, number, library) {
+        Some(name) => put_longer(name.as_str(), "16,777,216 bytes", hints),
+        None => Ok(()),
+    }
+}
+
+/// Appends which word list is wrong. Its number stands before the colon of what is told of it.
+pub(crate) fn put_wrong_list<L: Library>(
+    alloc: Global,
+    fault: &str,
+    request: &Request,
+    library: &mut L,
+    hints: &mut String,
+) -> Result<(), AllocError> {
+    let Some((number, _)) = fault.split_once(":") else {
         return Ok(());
     };
-    match number.parse::<usize>() {
-        Ok(number) => match cited.as_slice().get(number.wrapping_sub(1)) {
-            Some(name) => put_longer(name.as_str(), "16,777,216 bytes", hints),
-            None => Ok(()),
-        },
-        Err(_) => Ok(()),
+    match list_numbered(alloc, request, number, library) {
+        Some(name) => writeln!(hints, "hint: the word list is {:?}", name.as_str()),
+        None => Ok(()),
     }
 }
 

@@ -232,7 +232,7 @@ pub(crate) fn put_value(
 }
 
 /// Appends what may stand at a key.
-fn put_expected(expected: Expected, hints: &mut String) -> Result<(), AllocError> {
+pub(crate) fn put_expected(expected: Expected, hints: &mut String) -> Result<(), AllocError> {
     match expected {
         Expected::KindName => writeln!(hints, "hint: the kinds are {OTHER_KINDS}, {LEAF_KINDS}"),
         Expected::LeafName => writeln!(hints, "hint: the leaf kinds are {LEAF_KINDS}"),

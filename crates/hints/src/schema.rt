@@ -2,10 +2,12 @@
 
 use crate::keys::{put_key_hints, put_syntax};
 use crate::rules::{Broken, put_rule};
+use detail_plan::{detail_citations, read_detail};
 use dictionaries::read_dictionary;
 use pd_outside::{Library, read_whole};
+use request_words::Request;
 use schema_check::{CheckFault, check, citations};
-use schema_model::{Schema, Texts};
+use schema_model::{Schema, Text, Texts};
 use schema_plan::{Dictionaries, MAX_ITEMS, NO_FACTS, Plan, TableFacts, fill_facts};
 use schema_read::{ReadSchemaFault, read_schema};
 use std::alloc::{AllocError, Global};
@@ -28,9 +30,47 @@ fn schema_of<L: Library>(alloc: Global, name: &str, library: &mut L) -> Option<S
 }
 
 /// Returns the names of the word lists that the schema of a file cites.
-pub(crate) fn cited_in<L: Library>(alloc: Global, name: &str, library: &mut L) -> Option<Texts> {
+fn cited_in<L: Library>(alloc: Global, name: &str, library: &mut L) -> Option<Texts> {
     let schema = schema_of(alloc, name, library)?;
     citations(alloc, &schema).ok()
+}
+
+/// Returns the names of the word lists that only the declaration of a detail table cites, if the schema has a plan.
+fn own_lists<L: Library>(alloc: Global, request: &Request, library: &mut L) -> Option<Texts> {
+    let plan = plan_of(alloc, request.schema.as_str(), library)?;
+    let bytes = text_of(alloc, request.spec.as_str(), library)?;
+    let detail = read_detail(alloc, bytes.as_slice()).ok()?;
+    detail_citations(alloc, &plan, &detail).ok()
+}
+
+/// Returns the names of the word lists of a request, in the order of their numbers in messages.
+pub(crate) fn lists_of<L: Library>(
+    alloc: Global,
+    request: &Request,
+    library: &mut L,
+) -> Option<Texts> {
+    let mut names = cited_in(alloc, request.schema.as_str(), library)?;
+    if request.spec.as_str().is_empty() {
+        return Some(names);
+    }
+    if let Some(own) = own_lists(alloc, request, library) {
+        for name in own.as_slice() {
+            names.push(Text::of(alloc, name.as_str()).ok()?).ok()?;
+        }
+    }
+    Some(names)
+}
+
+/// Returns the name of the word list that has a number in messages.
+pub(crate) fn list_numbered<L: Library>(
+    alloc: Global,
+    request: &Request,
+    number: &str,
+    library: &mut L,
+) -> Option<Text> {
+    let names = lists_of(alloc, request, library)?;
+    let place = number.parse::<usize>().ok()?.checked_sub(1)?;
+    Text::of(alloc, names.as_slice().get(place)?.as_str()).ok()
 }
 
 /// Returns the plan of the schema of a file, if it has one.

@@ -89,7 +89,50 @@ kind = "key"
 base = 1
 "#;
 
-const RUNS: [Run; 6] = [
+/// Lines of the table of two rows, with a word list that the schema doesn't have.
+const DETAILS: &str = r#"seed = 1
+name = "item"
+parent = "t"
+lo = 1
+hi = 2
+[[column]]
+name = "word"
+kind = "dict"
+file = "own.txt"
+"#;
+
+/// A column without the key `file`.
+const WITHOUT_FILE: &str = r#"seed = 1
+name = "item"
+parent = "t"
+lo = 1
+hi = 2
+[[column]]
+name = "word"
+kind = "dict"
+"#;
+
+/// A column of a kind that only tables of schemas have.
+const OF_ANOTHER_KIND: &str = r#"seed = 1
+name = "item"
+parent = "t"
+lo = 1
+hi = 2
+[[column]]
+name = "word"
+kind = "list"
+file = "own.txt"
+"#;
+
+/// The files that are there beside the schema.
+const FILES: [(&str, &str); 4] = [
+    ("item.toml", DETAILS),
+    ("short.toml", WITHOUT_FILE),
+    ("other.toml", OF_ANOTHER_KIND),
+    ("own.txt", "one\tmany\n"),
+];
+
+const RUNS: [Run; 10] = [
     Run {
         words: "pdgf check s.toml",
         schema: SOUND,
@@ -136,6 +179,34 @@ hint: write a date in quotes, such as "1999-12-31"
         message: "pdgf: out of range: --unit\n",
         hints: "hint: --unit is 0 to 5\n",
     },
+    Run {
+        words: "pdgf details s.toml --spec item.toml --unit 0",
+        schema: SOUND,
+        status: 4,
+        message: "pdgf: dictionary 1: bad weight at line 1\n",
+        hints: "hint: the word list is \"own.txt\"\n",
+    },
+    Run {
+        words: "pdgf details s.toml --spec item.toml --unit 0",
+        schema: SOUND,
+        status: 4,
+        message: "pdgf: rule E6\n",
+        hints: "hint: \"item.toml\": names of word lists have 1 to 255 bytes, and at most 64 differ\n",
+    },
+    Run {
+        words: "pdgf details s.toml --spec short.toml --unit 0",
+        schema: SOUND,
+        status: 3,
+        message: "pdgf: details: wrong form\n",
+        hints: "hint: `file` (line 6) is missing\nhint: write a text in quotes, such as \"orders\"\n",
+    },
+    Run {
+        words: "pdgf details s.toml --spec other.toml --unit 0",
+        schema: SOUND,
+        status: 3,
+        message: "pdgf: details: wrong form\n",
+        hints: "hint: kind \"list\" (line 8): the kinds of a detail table are int, fixed, date, pick, skew, dict, words, chars, uuid, parent, after, sum, product\n",
+    },
 ];
 
 fn words_of(alloc: Global, line: &str) -> Result<Vec<String>, AllocError> {
@@ -148,8 +219,16 @@ fn words_of(alloc: Global, line: &str) -> Result<Vec<String>, AllocError> {
 
 fn library_of(alloc: Global, schema: &str) -> Result<MemLibrary, AllocError> {
     let mut files = Files::new(alloc);
-    match files.push("s.toml", schema.as_bytes()) {
-        Ok(()) => Ok(MemLibrary::new(alloc, files, LibraryFails::new(alloc))),
+    add_file(&mut files, "s.toml", schema)?;
+    for (name, text) in &FILES {
+        add_file(&mut files, name, text)?;
+    }
+    Ok(MemLibrary::new(alloc, files, LibraryFails::new(alloc)))
+}
+
+fn add_file(files: &mut Files, name: &str, text: &str) -> Result<(), AllocError> {
+    match files.push(name, text.as_bytes()) {
+        Ok(()) => Ok(()),
         Err(_) => Err(AllocError),
     }
 }

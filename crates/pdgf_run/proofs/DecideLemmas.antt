@@ -1,13 +1,15 @@
 -- What words come to, as it is found.
-use Rattle.std.proofs.Common.{◌≡◌, ◌≢◌, ℕ, Bool, false, true, List, [], ◌∷◌, ◌++◌, append-nil, append_assoc, drop, length, length-append, take, Option, None, Some, Result, Ok, Err, inl, inr, refl, ap, sym, subst, ◌∙◌, arith}
+use Rattle.std.proofs.Common.{◌≡◌, ◌≢◌, ◌≤◌, ◌+◌, ℕ, Bool, false, true, List, [], ◌∷◌, ◌++◌, append-nil, append_assoc, drop, length, length-append, take, Option, None, Some, Result, Ok, Err, inl, inr, refl, ap, sym, subst, ◌∙◌, arith}
 use Rattle.std.specs.Prelude.{◌⊎◌, IfErr, IfOk, IfSome, IsErr, OnOk, if◌then◌else◌, ◌↔◌}
 use Rattle.std.specs.Option.{option_map}
 use Rattle.std.proofs.lemmas.List.{take-append-drop}
+use Rattle.dictionaries.specs.WordList.{WordList}
 use Rattle.pd_outside.proofs.Counts.{failed_then, unfailed_same, unfailed_then}
 use Rattle.pd_outside.specs.Faults.{Counts, Unfailed}
 use Rattle.pd_outside.specs.Files.{File}
 use Rattle.pd_outside.specs.Library.{AskedPrefixOf, Content, left}
-use Rattle.plan_stages.specs.PlanNames.{AskedAlone, AsksForPlan, PlanRead, plan_names, possible_names}
+use Rattle.plan_stages.specs.DictionaryFiles.{names_of}
+use Rattle.plan_stages.specs.PlanNames.{AskedAlone, AsksForPlan, PlanRead, cited_by, plan_names, possible_names}
 use Rattle.plan_stages.specs.Plans.{limit_at, plan_in}
 use Rattle.plan_stages.specs.Stages.{ended, in_stage, told_files, Decides, IsReadOut, LibraryAfter}
 use Rattle.plan_stages.proofs.DictionaryLemmas.{IfSome-same, asked_also, asked_first}
@@ -23,21 +25,12 @@ use Rattle.request_words.specs.declared.usage.Mode.{Mode}
 use Rattle.request_words.specs.declared.usage.Request.{Request}
 use Rattle.request_words.specs.declared.usage.UsageFault.{UsageFault}
 use Rattle.request_words.specs.declared.usage.UsageFault.TheVariants as usage
-use Rattle.schema_plan.specs.Dictionaries.{Project, project_of}
+use Rattle.schema_plan.specs.Dictionaries.{Dictionary, Project, project_of}
 use Rattle.schema_plan.specs.Limits.{IsInLimits}
 use Rattle.schema_read.specs.Schema.{schema_of}
-use Rattle.std.specs.Prelude.{flat_map, map}
-use Rattle.request_words.specs.declared.usage.Format.{Format}
-use Rattle.stream_apply.specs.declared.key_fields.KeyFields.TheVariants.{One}
-use Rattle.update_box.specs.Packages.{chosen_places}
-use Rattle.update_box.specs.Parts.{name_at}
-use Rattle.pdgf_run.specs.Formats.{in_directory}
-use Rattle.pdgf_run.specs.Replay.{names_by, possible_of}
-use Rattle.pdgf_run.specs.declared.replay.Way.TheVariants as way
-use Rattle.pdgf_run.specs.modes.Apply.{apply_of, tables_asked}
-use Rattle.pdgf_run.proofs.KeyedTextLemmas.{format_alike}
 use Rattle.pdgf_run.specs.Playing.{task_due}
-use Rattle.pdgf_run.specs.ReadingList.{AsksInMode, AsksInTurn, names_behind, names_in_mode, possible_behind, possible_in_mode, possible_list, reading_list, reads_schema}
+use Rattle.pdgf_run.specs.Details.{lists_named}
+use Rattle.pdgf_run.specs.ReadingList.{AsksInMode, AsksInTurn, Possible, names_behind, names_in_mode, possible_behind, possible_in_mode, possible_list, project_with_words, reading_list, reads_schema}
 use Rattle.pdgf_run.specs.TopCall.{IsLimitOf, IsLimitRefused, IsLimitTold, LibraryDone, LibraryLeft, reads_for}
 use Rattle.pdgf_run.specs.Verdict.{IsDecided, IsInMode, IsJobOver, IsOfRequest, IsPlanned, IsVerdict, plan_by}
 use Rattle.pdgf_run.specs.declared.job.Task.{Task}
@@ -209,6 +202,14 @@ left_with_plan status IsLimit limit before mid now taken_mid taken started_mid i
       unfailed = λ other. unfailed_then counts_before counts_mid counts_now sofar (left.unfailed other);
     }
 
+-- what holds of a request does where words give it
+pub where_asked : (P : Request → Type 0) (q : Result Request UsageFault) (r : Request) → q ≡ Ok r → P r → IfOk q P
+where_asked P q r is fact = subst (λ (asked : Result Request UsageFault). IfOk asked P) (sym is) fact
+
+pub where_any : (P Q : Request → Type 0) (q : Result Request UsageFault) → ((r : Request) → P r → Q r) → IfOk q P → IfOk q Q
+where_any P Q (Err fault) follows fact = tt
+where_any P Q (Ok r) follows fact = follows r fact
+
 -- ---- the names that are asked
 
 -- what a request asks for, its words do
@@ -225,12 +226,18 @@ asked_none_told : (told : Option (List File)) (list : List File → List (List �
 asked_none_told None list before = tt
 asked_none_told (Some f) list before = asked_none (list f) before
 
+-- a schema with these bytes, and a declaration with these, and no words
+abbrev held_by : List ℕ → Possible
+held_by bytes = record { schema = bytes; dictionaries = []; details = []; lists = [] }
+
+abbrev nothing_held : Possible
+nothing_held = held_by []
+
 pub asks_nothing : (q : Result Request UsageFault) (told : Option (List File)) (before : Option (List (List ℕ))) → AsksInTurn q told before before
 asks_nothing q told before = record {
   told = asked_none_told told (reading_list q) before;
-  bytes = [];
-  details = [];
-  untold = asked_none (possible_list q [] []) before;
+  held = nothing_held;
+  untold = asked_none (possible_list q nothing_held) before;
 }
 
 -- nor was one alone
@@ -241,20 +248,21 @@ not-alone name (Some names) alone =
     omega (arith, ap length same, length-append names (name ∷ []))
 
 -- what is asked for where a schema is read
-in_turn : (r : Request) (told : Option (List File)) (bytes details : List ℕ) (before now : Option (List (List ℕ))) → reads_schema r.mode ≡ true →
+in_turn : (r : Request) (told : Option (List File)) (held : Possible) (before now : Option (List (List ℕ))) → reads_schema r.mode ≡ true →
     IfSome told (λ (f : List File). AskedPrefixOf (plan_names f r.schema ++ names_behind r f (plan_in f r.schema)) before now) →
-    AskedPrefixOf (possible_names bytes r.schema ++ possible_behind r details (schema_of bytes)) before now → AsksInTurn (Ok r) told before now
-in_turn r told bytes details before now reads asks possible = record {
+    AskedPrefixOf (possible_names held.schema r.schema ++ possible_behind r held (schema_of held.schema)) before now → AsksInTurn (Ok r) told before now
+in_turn r told held before now reads asks possible = record {
   told =
       subst (λ (b : Bool). IfSome told (λ (f : List File). AskedPrefixOf ((if b then plan_names f r.schema else []) ++ names_behind r f (plan_in f r.schema)) before now))
       (sym reads) asks;
-  bytes = bytes;
-  details = details;
-  untold = subst (λ (b : Bool). AskedPrefixOf ((if b then possible_names bytes r.schema else []) ++ possible_behind r details (schema_of bytes)) before now) (sym reads) possible;
+  held = held;
+  untold =
+      subst (λ (b : Bool). AskedPrefixOf ((if b then possible_names held.schema r.schema else []) ++ possible_behind r held (schema_of held.schema)) before now) (sym reads)
+      possible;
 }
 
 -- the first of some names are the first of more
-first_of_more : (list more : List (List ℕ)) (before now : Option (List (List ℕ))) → AskedPrefixOf list before now → AskedPrefixOf (list ++ more) before now
+pub first_of_more : (list more : List (List ℕ)) (before now : Option (List (List ℕ))) → AskedPrefixOf list before now → AskedPrefixOf (list ++ more) before now
 first_of_more list more before now asks =
     asked_first (list ++ more) (take asks.count list) (drop asks.count list ++ more) before now asks.asked
     (ap (λ (l : List (List ℕ)). l ++ more) (sym (take-append-drop asks.count list)) ∙ append_assoc (take asks.count list) (drop asks.count list) more)
@@ -268,12 +276,22 @@ asks_told r (Some f) before now asks = first_of_more (plan_names f r.schema) (na
 asks_of_schema : (r : Request) (told : Option (List File)) (before now : Option (List (List ℕ))) → reads_schema r.mode ≡ true → AsksForPlan r.schema told before now →
     AsksInTurn (Ok r) told before now
 asks_of_schema r told before now reads asks =
-    in_turn r told asks.bytes [] before now reads (asks_told r told before now asks.told)
-    (first_of_more (possible_names asks.bytes r.schema) (possible_behind r [] (schema_of asks.bytes)) before now asks.untold)
+    let held : Possible = held_by asks.bytes in
+    in_turn r told held before now reads (asks_told r told before now asks.told)
+    (first_of_more (possible_names asks.bytes r.schema) (possible_behind r held (schema_of asks.bytes)) before now asks.untold)
 
 pub asks_of_name : (r : Request) (name : List ℕ) (told : Option (List File)) (before now : Option (List (List ℕ))) → reads_schema r.mode ≡ true → name ≡ r.schema →
     AsksForPlan name told before now → AsksInTurn (Ok r) told before now
 asks_of_name r name told before now reads is asks = asks_of_schema r told before now reads (subst (λ (n : List ℕ). AsksForPlan n told before now) is asks)
+
+-- word lists that were read have the names that were asked for, and some words
+pub words_read : (names : List (List ℕ)) (lists : List Dictionary) → names_of lists ≡ names → (words : List WordList) × (lists_named names words ≡ lists)
+words_read names [] are = ([], subst (λ (ns : List (List ℕ)). lists_named ns [] ≡ []) are refl)
+words_read names (list ∷ lists) are =
+    let rest = words_read (names_of lists) lists refl in (
+      list.words ∷ rest.0,
+      subst (λ (ns : List (List ℕ)). lists_named ns (list.words ∷ rest.0) ≡ list ∷ lists) are (ap (λ (ls : List Dictionary). list ∷ ls) rest.1),
+    )
 
 -- names that were asked, and then the first of others
 pub asked_then : (first list : List (List ℕ)) (before mid now : Option (List (List ℕ))) → mid ≡ option_map (λ names. names ++ first) before → AskedPrefixOf list mid now →
@@ -282,27 +300,6 @@ asked_then first list before mid now once more =
     asked_first (first ++ list) (first ++ take more.count list) (drop more.count list) before now
     (more.asked ∙ ap (option_map (λ (names : List (List ℕ)). names ++ take more.count list)) once ∙ asked_also first (take more.count list) before)
     (ap (λ (l : List (List ℕ)). first ++ l) (sym (take-append-drop more.count list)) ∙ sym (append_assoc first (take more.count list) (drop more.count list)))
-
--- of a plan only the schema is asked
-same-possible : (r : Request) (plan : Project) (asked : Result (Option ℕ) JobFault) → possible_of (apply_of plan r) r asked ≡ possible_of (apply_of (project_of plan.schema []) r) r asked
-same-possible r plan (Err fault) = refl
-same-possible r plan (Ok table) =
-    ap (λ (format : Format). map (in_directory r.source) (flat_map (names_by (way.Apply One) format r.from r.to) (map (name_at plan.schema) (chosen_places plan table))))
-    (format_alike r.format plan (project_of plan.schema []) (chosen_places plan table))
-
-possible_same : (mode : Mode) (r : Request) (plan : Project) (details : List ℕ) → possible_in_mode mode r plan details ≡ possible_in_mode mode r (project_of plan.schema []) details
-possible_same Check r plan details = refl
-possible_same Snapshot r plan details = refl
-possible_same Unit r plan details = refl
-possible_same Row r plan details = refl
-possible_same Apply r plan details = same-possible r plan (tables_asked plan r)
-possible_same Sample r plan details = refl
-possible_same Play r plan details = refl
-possible_same Details r plan details = refl
-possible_same DetailsUnit r plan details = refl
-possible_same DetailsApply r plan details = refl
-possible_same Undo r plan details = refl
-possible_same Revert r plan details = refl
 
 asks_then_told : (r : Request) (plan : Project) (told : Option (List File)) (possible : List (List ℕ)) (before mid now : Option (List (List ℕ))) →
     IfSome told (λ (f : List File). plan_in f r.schema ≡ Ok plan) → IfSome told (λ (f : List File). plan_names f r.schema ≡ possible) →
@@ -314,14 +311,20 @@ asks_then_told r plan (Some f) possible before mid now planned names asked asks 
     (subst (λ (first : List (List ℕ)). AskedPrefixOf (first ++ names_in_mode r.mode r plan f) before now) (sym names)
     (asked_then possible (names_in_mode r.mode r plan f) before mid now asked asks))
 
+-- dictionaries have the names that the schema cites, and some words
+same_project : (plan : Project) (words : List WordList) → lists_named (cited_by plan.schema) words ≡ plan.dictionaries → project_with_words plan.schema words ≡ plan
+same_project plan words are = ap (project_of plan.schema) are
+
 -- what a plan was made of, and then what its mode asks for
 asks_behind : (r : Request) (plan : Project) (told : Option (List File)) (before mid now : Option (List (List ℕ))) → IfSome told (λ (f : List File). plan_in f r.schema ≡ Ok plan) →
-    PlanRead plan.schema r.schema told before mid → AsksInMode r plan told mid now → reads_schema r.mode ≡ true → AsksInTurn (Ok r) told before now
-asks_behind r plan told before mid now planned read asks reads =
-    in_turn r told read.bytes asks.details before now reads (asks_then_told r plan told (possible_names read.bytes r.schema) before mid now planned read.told read.asked asks.told)
+    names_of plan.dictionaries ≡ cited_by plan.schema → PlanRead plan.schema r.schema told before mid → AsksInMode r plan told mid now → reads_schema r.mode ≡ true → AsksInTurn (Ok r) told before now
+asks_behind r plan told before mid now planned named read asks reads =
+    let words = words_read (cited_by plan.schema) plan.dictionaries named in
+    let held : Possible = record { schema = read.bytes; dictionaries = words.0; details = asks.details; lists = asks.lists } in
+    in_turn r told held before now reads (asks_then_told r plan told (possible_names read.bytes r.schema) before mid now planned read.told read.asked asks.told)
     (subst (λ (behind : List (List ℕ)). AskedPrefixOf (possible_names read.bytes r.schema ++ behind) before now)
-    (possible_same r.mode r plan asks.details ∙ ap (possible_behind r asks.details) (sym read.read))
-    (asked_then (possible_names read.bytes r.schema) (possible_in_mode r.mode r plan asks.details) before mid now read.asked asks.untold))
+    (ap (λ (p : Project). possible_in_mode r.mode r p asks.details asks.lists) (sym (same_project plan words.0 words.1)) ∙ ap (possible_behind r held) (sym read.read))
+    (asked_then (possible_names read.bytes r.schema) (possible_in_mode r.mode r plan asks.details asks.lists) before mid now read.asked asks.untold))
 
 planned_ok : (told : Option (List File)) (r : Request) (name : List ℕ) (plan : Project) → name ≡ r.schema →
     IfSome told (λ files. Decides plan_status (λ plan. plan) (Ok plan) (plan_in files name)) → IfSome told (λ (f : List File). plan_in f r.schema ≡ Ok plan)
@@ -330,10 +333,10 @@ planned_ok (Some files) r name plan is planned = ap (plan_in files) (sym is) ∙
 
 pub asks_with_plan : (r : Request) (name : List ℕ) (plan : Project) (told told_mid : Option (List File)) (before mid now : Option (List (List ℕ))) →
     reads_schema r.mode ≡ true → name ≡ r.schema →
-    IfSome told (λ files. Decides plan_status (λ plan. plan) (Ok plan) (plan_in files name)) → PlanRead plan.schema name told before mid → told_mid ≡ told →
-    AsksInMode r plan told_mid mid now → AsksInTurn (Ok r) told before now
-asks_with_plan r name plan told told_mid before mid now reads is planned read same asks =
-    asks_behind r plan told before mid now (planned_ok told r name plan is planned)
+    IfSome told (λ files. Decides plan_status (λ plan. plan) (Ok plan) (plan_in files name)) → names_of plan.dictionaries ≡ cited_by plan.schema →
+    PlanRead plan.schema name told before mid → told_mid ≡ told → AsksInMode r plan told_mid mid now → AsksInTurn (Ok r) told before now
+asks_with_plan r name plan told told_mid before mid now reads is planned named read same asks =
+    asks_behind r plan told before mid now (planned_ok told r name plan is planned) named
     (subst (λ (n : List ℕ). PlanRead plan.schema n told before mid) is read)
     (subst (λ (t : Option (List File)). AsksInMode r plan t mid now) same asks) reads
 
@@ -370,3 +373,13 @@ read_to_the_end None None same out = refl
 read_to_the_end None (Some n) same out = absurd (cc)
 read_to_the_end (Some b) None same out = absurd (cc)
 read_to_the_end (Some b) (Some n) same out = ap Some out
+
+-- a report tells a refusal's status
+pub longer-told : (taken limit status told : ℕ) → told ≡ status → (taken ≤ limit) ⊎ (status ≡ 10) → taken ≡ limit + 1 → told ≡ 10
+longer-told taken limit status told is (inl within) longer = absurd (omega (arith, within, longer))
+longer-told taken limit status told is (inr ten) longer = is ∙ ten
+
+pub within-told : (q : Result Request UsageFault) (taken limit status told : ℕ) → told ≡ status → (reads_for q ≡ true → (status ≡ 0) ⊎ (status ≡ 9) → taken ≤ limit) →
+    IfOk q (λ asked. reads_schema asked.mode ≡ true → (told ≡ 0) ⊎ (told ≡ 9) → taken ≤ limit)
+within-told (Err fault) taken limit status told is within = tt
+within-told (Ok r) taken limit status told is within = λ reads ends. within reads (subst (λ (s : ℕ). (s ≡ 0) ⊎ (s ≡ 9)) is ends)

@@ -1,6 +1,7 @@
 -- What a mode comes to that asks nothing of the library.
-use Rattle.std.proofs.Common.{◌≡◌, ◌≢◌, ℕ, Bool, List, [], ◌∷◌, Option, None, Some, Result, Ok, Err, inl, inr, refl, sym, subst, arith}
+use Rattle.std.proofs.Common.{◌≡◌, ◌≢◌, ℕ, Bool, List, [], Option, None, Some, Result, Ok, Err, inl, inr, refl, sym, subst, arith}
 use Rattle.std.specs.Prelude.{◌⊎◌, IfErr, IfSome}
+use Rattle.dictionaries.specs.WordList.{WordList}
 use Rattle.pd_outside.specs.Faults.{Counts}
 use Rattle.pd_outside.specs.Files.{File}
 use Rattle.pd_outside.specs.Library.{AskedPrefixOf, Content}
@@ -18,6 +19,7 @@ use Rattle.pdgf_run.specs.TopCall.{IsLimitTold, LibraryLeft}
 use Rattle.pdgf_run.specs.Verdict.{IsDecided, IsInMode}
 use Rattle.pdgf_run.specs.modes.Apply.{paths_asked, paths_possible}
 use Rattle.pdgf_run.specs.modes.Check.{check_due}
+use Rattle.pdgf_run.specs.Details.{declaration_names, possible_declaration, AsksForDetails}
 use Rattle.pdgf_run.specs.modes.Details.{details_due}
 use Rattle.pdgf_run.specs.modes.DetailsApply.{details_apply_asked, details_apply_possible}
 use Rattle.pdgf_run.specs.modes.Revert.{undo_paths_asked, undo_paths_possible}
@@ -90,8 +92,8 @@ left_untouched answer content taken is_started counts refused out =
     left_alone (ended job_status answer) (IsLimitTold answer) content taken is_started counts others.2 others.3 out
 
 pub asks_nothing : (r : Request) (plan : Project) (told : Option (List File)) (before : Option (List (List ℕ))) → AsksInMode r plan told before before
-asks_nothing r plan None before = record { told = tt; details = []; untold = record { count = 0; asked = none_asked before } }
-asks_nothing r plan (Some files) before = record { told = record { count = 0; asked = none_asked before }; details = []; untold = record { count = 0; asked = none_asked before } }
+asks_nothing r plan None before = record { told = tt; details = []; lists = []; untold = record { count = 0; asked = none_asked before } }
+asks_nothing r plan (Some files) before = record { told = record { count = 0; asked = none_asked before }; details = []; lists = []; untold = record { count = 0; asked = none_asked before } }
 
 -- ---- mode apply
 
@@ -107,7 +109,8 @@ pub apply_asks : (r : Request) (plan : Project) (told : Option (List File)) (bef
 apply_asks r plan told before now is first possible = record {
   told = subst (λ (m : Mode). IfSome told (λ (f : List File). AskedPrefixOf (names_in_mode m r plan f) before now)) (sym is) first;
   details = [];
-  untold = subst (λ (m : Mode). AskedPrefixOf (possible_in_mode m r plan []) before now) (sym is) possible;
+  lists = [];
+  untold = subst (λ (m : Mode). AskedPrefixOf (possible_in_mode m r plan [] []) before now) (sym is) possible;
 }
 
 -- ---- mode details-apply
@@ -120,11 +123,12 @@ details_apply_decided told r plan made is decided =
 
 pub details_apply_asks : (r : Request) (plan : Project) (told : Option (List File)) (before now : Option (List (List ℕ))) → r.mode ≡ DetailsApply →
     IfSome told (λ files. AskedPrefixOf (details_apply_asked plan r files) before now) →
-    (details : List ℕ) × AskedPrefixOf (details_apply_possible plan r details) before now → AsksInMode r plan told before now
+    (details : List ℕ) × (lists : List WordList) × AskedPrefixOf (details_apply_possible plan r details lists) before now → AsksInMode r plan told before now
 details_apply_asks r plan told before now is first possible = record {
   told = subst (λ (m : Mode). IfSome told (λ (f : List File). AskedPrefixOf (names_in_mode m r plan f) before now)) (sym is) first;
   details = possible.0;
-  untold = subst (λ (m : Mode). AskedPrefixOf (possible_in_mode m r plan possible.0) before now) (sym is) possible.1;
+  lists = possible.1;
+  untold = subst (λ (m : Mode). AskedPrefixOf (possible_in_mode m r plan possible.0 possible.1) before now) (sym is) possible.2;
 }
 
 -- ---- mode revert
@@ -141,7 +145,8 @@ pub revert_asks : (r : Request) (plan : Project) (told : Option (List File)) (be
 revert_asks r plan told before now is first possible = record {
   told = subst (λ (m : Mode). IfSome told (λ (f : List File). AskedPrefixOf (names_in_mode m r plan f) before now)) (sym is) first;
   details = [];
-  untold = subst (λ (m : Mode). AskedPrefixOf (possible_in_mode m r plan []) before now) (sym is) possible;
+  lists = [];
+  untold = subst (λ (m : Mode). AskedPrefixOf (possible_in_mode m r plan [] []) before now) (sym is) possible;
 }
 
 -- ---- modes details and details-unit
@@ -158,23 +163,27 @@ pub details_unit_decided : (told : Option (List File)) (r : Request) (plan : Pro
 details_unit_decided told r plan made is decided =
     subst (λ (m : Mode). IfSome told (λ files. IsDecided job_status due_of (IsInMode m r plan files) made)) (sym is) decided
 
--- the declaration's name is asked at most
+-- the declaration's name is asked, and its word lists'
 asks_declaration : (mode : Mode) (r : Request) (plan : Project) (told : Option (List File)) (before now : Option (List (List ℕ))) → r.mode ≡ mode →
-    ((files : List File) → names_in_mode mode r plan files ≡ r.spec ∷ []) → possible_in_mode mode r plan [] ≡ r.spec ∷ [] → AskedPrefixOf (r.spec ∷ []) before now → AsksInMode r plan told before now
-asks_declaration mode r plan told before now is names possible asked = record {
-  told =
-      where_told told (λ f. AskedPrefixOf (names_in_mode r.mode r plan f) before now)
-      (λ f. subst (λ (m : Mode). AskedPrefixOf (names_in_mode m r plan f) before now) (sym is) (subst (λ (list : List (List ℕ)). AskedPrefixOf list before now) (sym (names f)) asked));
-  details = [];
+    ((files : List File) → names_in_mode mode r plan files ≡ declaration_names plan files r.spec) →
+    ((details : List ℕ) → possible_in_mode mode r plan details [] ≡ possible_declaration plan details r.spec) → AsksForDetails plan r.spec told before now → AsksInMode r plan told before now
+asks_declaration mode r plan told before now is names possible asks = record {
+  told = subst (λ (m : Mode). IfSome told (λ f. AskedPrefixOf (names_in_mode m r plan f) before now)) (sym is) (named told asks.told);
+  details = asks.bytes;
+  lists = [];
   untold =
-      subst (λ (m : Mode). AskedPrefixOf (possible_in_mode m r plan []) before now) (sym is)
-      (subst (λ (list : List (List ℕ)). AskedPrefixOf list before now) (sym possible) asked);
+      subst (λ (m : Mode). AskedPrefixOf (possible_in_mode m r plan asks.bytes []) before now) (sym is)
+      (subst (λ (list : List (List ℕ)). AskedPrefixOf list before now) (sym (possible asks.bytes)) asks.untold);
 }
+  where
+    named : (t : Option (List File)) → IfSome t (λ f. AskedPrefixOf (declaration_names plan f r.spec) before now) → IfSome t (λ f. AskedPrefixOf (names_in_mode mode r plan f) before now)
+    named None asked = tt
+    named (Some f) asked = subst (λ (list : List (List ℕ)). AskedPrefixOf list before now) (sym (names f)) asked
 
-pub details_asks : (r : Request) (plan : Project) (told : Option (List File)) (before now : Option (List (List ℕ))) → r.mode ≡ Details → AskedPrefixOf (r.spec ∷ []) before now →
+pub details_asks : (r : Request) (plan : Project) (told : Option (List File)) (before now : Option (List (List ℕ))) → r.mode ≡ Details → AsksForDetails plan r.spec told before now →
     AsksInMode r plan told before now
-details_asks r plan told before now is asked = asks_declaration Details r plan told before now is (λ f. refl) refl asked
+details_asks r plan told before now is asks = asks_declaration Details r plan told before now is (λ f. refl) (λ details. refl) asks
 
-pub details_unit_asks : (r : Request) (plan : Project) (told : Option (List File)) (before now : Option (List (List ℕ))) → r.mode ≡ DetailsUnit → AskedPrefixOf (r.spec ∷ []) before now →
+pub details_unit_asks : (r : Request) (plan : Project) (told : Option (List File)) (before now : Option (List (List ℕ))) → r.mode ≡ DetailsUnit → AsksForDetails plan r.spec told before now →
     AsksInMode r plan told before now
-details_unit_asks r plan told before now is asked = asks_declaration DetailsUnit r plan told before now is (λ f. refl) refl asked
+details_unit_asks r plan told before now is asks = asks_declaration DetailsUnit r plan told before now is (λ f. refl) (λ details. refl) asks

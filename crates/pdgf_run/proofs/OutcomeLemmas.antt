@@ -32,7 +32,7 @@ use Rattle.pdgf_run.specs.declared.job.Told.{Told}
 use Rattle.pdgf_run.specs.declared.job.Told.TheVariants.{Changes, Text}
 use Rattle.pdgf_run.specs.modes.Apply.{apply_of, tables_asked}
 use Rattle.pdgf_run.specs.modes.Sample.{IsLaterText, IsSampleUnless, later_units, summary_of, text_and_changes}
-use Rattle.detail_plan.specs.declared.detail.Detail.{Detail}
+use Rattle.detail_plan.specs.Kept.{Kept}
 use Rattle.refusals.specs.declared.refusal.DetailsCause.{DetailsCause}
 use Rattle.pdgf_run.specs.Details.{detail_in}
 use Rattle.pdgf_run.specs.modes.DetailsApply.{AreDeclared, apply_of_detail, detail_asked}
@@ -82,10 +82,10 @@ one_sample false plan answer other delimits is other_is =
     is.2 ∙ ap (λ (text : List ℕ). Ok (text_files text)) (one.2 ∙ ap (summary_of plan) same ∙ sym two.2) ∙ sym other_is.2
 
 -- what is behind a declaration
-one_declared : (plan : Project) (r : Request) (files : List File) (declared : Result Detail DetailsCause) (answer other : Result (List File) JobFault) → IsDelimiter (layout_of plan).delimiter →
+one_declared : (plan : Project) (r : Request) (files : List File) (declared : Result Kept DetailsCause) (answer other : Result (List File) JobFault) → IsDelimiter (layout_of plan).delimiter →
     AreDeclared plan r files declared answer → AreDeclared plan r files declared other → answer ≡ other
-one_declared plan r files (Ok detail) answer other delimits is other_is =
-    one_replay apply_of_detail (layout_of plan).delimiter r files (detail_asked plan r detail) answer other delimits is other_is
+one_declared plan r files (Ok kept) answer other delimits is other_is =
+    one_replay apply_of_detail (layout_of plan).delimiter r files (detail_asked plan r kept.detail) answer other delimits is other_is
 one_declared plan r files (Err cause) answer other delimits is other_is = is ∙ sym other_is
 
 one_in_mode : (mode : Mode) (r : Request) (plan : Project) (files : List File) (answer other : Result (List File) JobFault) → IsDelimiter (layout_of plan).delimiter →

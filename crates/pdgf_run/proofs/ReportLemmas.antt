@@ -5,10 +5,11 @@ use Rattle.pd_outside.specs.declared.faults.ReadFault.TheVariants as reading
 use Rattle.schema_check.specs.declared.checker.CheckFault.TheVariants as check
 use Rattle.schema_read.specs.declared.read.ReadSchemaFault.TheVariants as schema
 use Rattle.stream_apply.specs.declared.fault.ApplyFault.TheVariants as applying
-use Rattle.plan_stages.specs.Limits.{dictionary_limit, schema_limit}
+use Rattle.plan_stages.specs.Limits.{dictionary_limit}
 use Rattle.plan_stages.specs.Plans.{limit_at}
 use Rattle.refusals.specs.Messages.{cause_text, details_text, input_text, message_line, message_of, plan_fault_text}
 use Rattle.refusals.specs.Statuses.{cause_status, details_status, input_cause_status, plan_status, status_of}
+use Rattle.pdgf_run.specs.Details as declaration
 use Rattle.pdgf_run.specs.TopCall.{IsLimitOfRefusal, IsPastLimit}
 use Rattle.pdgf_run.specs.Replay.{input_limit}
 use Rattle.refusals.specs.declared.refusal.DetailsCause.{DetailsCause}
@@ -60,12 +61,13 @@ past_input file (input.Applying applying.Memory) limit taken ten within is = abs
 past_input file (input.BadRecord number) limit taken ten within is = absurd (cc)
 past_input file (input.Reverting fault) limit taken ten within is = absurd (cc)
 
-past_details : (fault : DetailsCause) (taken : ℕ) → details_status fault ≡ 10 → taken ≡ schema_limit + 1 → IsPastLimit (message_line (details_text fault)) taken
+past_details : (fault : DetailsCause) (taken : ℕ) → details_status fault ≡ 10 → taken ≡ declaration.limit_at fault + 1 → IsPastLimit (message_line (details_text fault)) taken
 past_details (details.Reading reading.Failed) taken ten is = absurd (cc)
 past_details (details.Reading reading.TooLong) taken ten is = inr (inr (inr (refl, is)))
 past_details (details.Reading reading.Memory) taken ten is = absurd (cc)
 past_details details.Syntax taken ten is = absurd (cc)
 past_details details.WrongForm taken ten is = absurd (cc)
+past_details (details.Dictionary fault) taken ten is = past_dictionary fault.number fault.cause taken ten is
 past_details (details.Rule number) taken ten is = absurd (cc)
 past_details details.Memory taken ten is = absurd (cc)
 

@@ -3,7 +3,7 @@ use Rattle.std.specs.Prelude.{◌≡◌, ℕ, ◌-◌, ◌≤◌, Bool, true, fa
 use Rattle.std.specs.Global.{Global}
 use Rattle.pd_outside.specs.Files.{File}
 use Rattle.request_words.specs.declared.usage.Request.{Request}
-use Rattle.detail_plan.specs.Rules.{KeepsRules}
+use Rattle.detail_plan.specs.Kept.{KeepsRules}
 use Rattle.detail_rows.specs.Lines.{parent_place}
 use Rattle.life_intervals.specs.Generator.{last_unit}
 use Rattle.life_intervals.specs.JobOrders.{AreOrdersOf}
@@ -56,7 +56,7 @@ due_of (Unit job) = table_files unit_contents job.of.plan job.of.out job.of.aske
 due_of (Script job) = statement_files (told_by job.changes) job.of.plan job.of.out job.of.asked
 due_of (Undo job) = undo_files job.of.of.plan job.of.of.out job.of.of.asked
 due_of (Files job) = named_files job.names job.texts
-due_of (Details job) = files_by job.names (told_texts (told_by job.changes) job.plan job.detail job.unit)
+due_of (Details job) = files_by job.names (told_texts (told_by job.changes) job.plan job.kept job.unit)
 
 -- a job can be cut into packages: what is asked is of the plan, the tables are prepared, and the pages of its workers, 1 to 64, have no
 -- more bytes than they may
@@ -110,14 +110,14 @@ is_text _ = false
 -- a detail table's lines can be told: it keeps the rules, at a unit of the plan, in packages of 1 to 1,000,000 rows of its parent, whose orders
 -- are the plan's; there are 1 to 64 workers, and a name for each file, where they have names; and what the unit changes in the parent was found
 pub record CanPackDetails (job : DetailsJob) : Type 0 where
-  pub keeps : KeepsRules job.plan job.detail
+  pub keeps : KeepsRules job.plan job.kept
   pub unit : job.unit ≤ last_unit job.plan
   pub rows : IsPackageSize job.size
   pub orders : AreOrdersOf job.plan job.orders
   pub some_worker : 1 ≤ job.workers
   pub worker_limit : job.workers ≤ 64
   pub named : IfSome job.names (λ (names : List (List ℕ)). length names ≡ length (contents_of (told_by job.changes)))
-  pub found : IfSome job.changes (λ (lists : UnitLists). (1 ≤ job.unit) × HoldLists job.plan job.unit (Some (parent_place job.plan job.detail)) lists)
+  pub found : IfSome job.changes (λ (lists : UnitLists). (1 ≤ job.unit) × HoldLists job.plan job.unit (Some (parent_place job.plan job.kept.detail)) lists)
 
 abbrev pub CanFill : Job → Type 0
 CanFill (Text bytes) = ⊤

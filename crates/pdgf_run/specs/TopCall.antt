@@ -1,5 +1,5 @@
 -- What the top call promises of its report and of the shelf.
-use Rattle.std.specs.Prelude.{◌≡◌, ◌≢◌, ◌≤◌, ◌⊎◌, ℕ, ◌+◌, Bool, false, true, List, [], IfOk, Option, Result, Ok, Err}
+use Rattle.std.specs.Prelude.{◌≡◌, ◌≢◌, ◌≤◌, ◌⊎◌, ℕ, ◌+◌, Bool, false, true, List, [], IfOk, OnOk, Option, Result, Ok, Err}
 use Rattle.std.specs.Option.{option_map}
 use Rattle.pd_outside.specs.Faults.{Counts, FailedAtLast, Unfailed}
 use Rattle.pd_outside.specs.Files.{File}
@@ -17,8 +17,9 @@ use Rattle.refusals.specs.declared.refusal.Refusal.TheVariants as refusal
 use Rattle.request_words.specs.declared.usage.Request.{Request}
 use Rattle.request_words.specs.declared.usage.UsageFault.{UsageFault}
 use Rattle.schema_plan.specs.Dictionaries.{Project}
-use Rattle.detail_plan.specs.declared.detail.Detail.{Detail}
+use Rattle.detail_plan.specs.Kept.{Kept}
 use Rattle.pdgf_run.specs.declared.report.Report.{Report}
+use Rattle.pdgf_run.specs.Details as details
 use Rattle.pdgf_run.specs.Details.{detail_in}
 use Rattle.pdgf_run.specs.ReadingList.{reads_schema}
 use Rattle.pdgf_run.specs.Replay.{input_limit}
@@ -33,13 +34,13 @@ Carries (Ok due) report before now =
 Carries (Err refusal) report before now =
     (report ≡ record { status = status.status_of refusal; message = text.message_of refusal }) × (now ≡ before)
 
--- a limit of the file that a fault tells as too long: that of the schema's text or of a dictionary, or, of an input, what those before it
+-- a limit of the file that a fault tells as too long: that of the schema's text, of a dictionary or of a declaration, or, of an input, what those before it
 -- leave of the limit of all
 abbrev pub IsLimitOf : JobFault → ℕ → Type 0
 IsLimitOf (job.Plan fault) limit = limit ≡ limit_at fault
 IsLimitOf (job.Range name) limit = ⊥
 IsLimitOf (job.Input fault) limit = limit ≤ input_limit
-IsLimitOf (job.Details cause) limit = limit ≡ schema_limit
+IsLimitOf (job.Details cause) limit = limit ≡ details.limit_at cause
 IsLimitOf job.Memory limit = ⊥
 
 abbrev pub IsLimitTold : {A : Type 0} → Result A JobFault → ℕ → Type 0
@@ -97,10 +98,9 @@ GivesLater request files report before now =
 -- The same of a detail table, which a file declares.
 abbrev pub GivesLaterDetails : Request → List File → Report → Option Held → Option Held → Type 0
 GivesLaterDetails request files report before now =
-    IfOk (plan_in files request.schema) (λ (plan : Project). IfOk (detail_in plan files request.spec) (λ (declared : Detail).
-    IfOk (detail_asked plan request declared) (λ (detail : Detail).
-    HoldDetailInputs plan request detail files →
-    (due : List File) × AreLaterDetails plan request detail due × Carries (Ok due) report before now)))
+    IfOk (plan_in files request.schema) (λ (plan : Project). IfOk (detail_in plan files request.spec) (λ (kept : Kept).
+    OnOk (detail_asked plan request kept.detail) (HoldDetailInputs plan request kept files →
+    (due : List File) × AreLaterDetails plan request kept due × Carries (Ok due) report before now)))
 
 -- Where files hold what a plain simulation gives as the texts at a unit and the undo texts back to an earlier one, all is done, and what the tables
 -- hold at the earlier unit is finished.

@@ -256,7 +256,7 @@ pub(crate) struct DetailsJob {
     /// The plan.
     pub(crate) plan: Plan,
     /// The detail table.
-    pub(crate) detail: DetailPlan,
+    pub(crate) kept: DetailPlan,
     /// The orders that are kept for the parent's rows.
     pub(crate) orders: JobOrders,
     /// The unit.
@@ -275,7 +275,7 @@ impl Drop for DetailsJob {
     fn drop(self) {
         let DetailsJob {
             plan,
-            detail,
+            kept,
             orders,
             unit: _,
             size: _,
@@ -284,7 +284,7 @@ impl Drop for DetailsJob {
             changes,
         } = self;
         drop(plan);
-        drop(detail);
+        drop(kept);
         drop(orders);
         drop(names);
         drop(changes);

@@ -15,7 +15,7 @@ use Rattle.pd_outside.specs.Library.{Content, ask, AskedAtMost, AskedPrefixOf}
 use Rattle.pd_outside.specs.declared.faults.ReadFault.{ReadFault}
 use Rattle.pd_outside.specs.declared.faults.ReadFault.TheVariants as reading
 use Rattle.schema_plan.specs.Dictionaries.{Dictionary}
-use Rattle.plan_stages.specs.DictionaryFiles.{fault_at, words_named, with_dictionaries, with_dictionary, words_in, words_of}
+use Rattle.plan_stages.specs.DictionaryFiles.{fault_at, names_of, words_named, with_dictionaries, with_dictionary, words_in, words_of}
 use Rattle.plan_stages.specs.Limits.{dictionary_limit}
 use Rattle.plan_stages.specs.PlanNames.{up_to_fault, AskedNone, AsksNames}
 use Rattle.plan_stages.specs.Stages.{in_stage, on_ok, told_files}
@@ -72,6 +72,27 @@ read_as_words (Some c) name bytes text before now words whole within same read a
     (words_in-is c.files name bytes whole ∙ words_of-within bytes within ∙ ap (in_stage cause.Grammar) (ap dictionary_of (sym same) ∙ read))
     ∙ ap Ok (sym appended)
 
+-- the same with known ones before all
+behind_known : (files : List File) (known before now : List Dictionary) (name : List ℕ) → with_dictionary files before name ≡ Ok now →
+    with_dictionary files (known ++ before) name ≡ Ok (known ++ now)
+behind_known files known before now name made = go (words_in files name) made
+  where
+    go : (words : Result WordList DictionaryCause) → ◌≡◌ {A = Result (List Dictionary) DictionaryCause} (on_ok words (λ w. Ok (before ++ words_named name w ∷ []))) (Ok now) →
+        ◌≡◌ {A = Result (List Dictionary) DictionaryCause} (on_ok words (λ w. Ok ((known ++ before) ++ words_named name w ∷ []))) (Ok (known ++ now))
+    go (Ok words) made =
+        let same : before ++ words_named name words ∷ [] ≡ now = cc in
+        ap Ok (append_assoc known before (words_named name words ∷ []) ∙ ap (λ (found : List Dictionary). known ++ found) same)
+    go (Err cause) made = absurd (cc)
+
+refused_behind : (files : List File) (known before : List Dictionary) (name : List ℕ) (cause : DictionaryCause) → with_dictionary files before name ≡ Err cause →
+    with_dictionary files (known ++ before) name ≡ Err cause
+refused_behind files known before name cause made = go (words_in files name) made
+  where
+    go : (words : Result WordList DictionaryCause) → ◌≡◌ {A = Result (List Dictionary) DictionaryCause} (on_ok words (λ w. Ok (before ++ words_named name w ∷ []))) (Err cause) →
+        ◌≡◌ {A = Result (List Dictionary) DictionaryCause} (on_ok words (λ w. Ok ((known ++ before) ++ words_named name w ∷ []))) (Err cause)
+    go (Ok words) made = absurd (cc)
+    go (Err other) made = let same : other ≡ cause = cc in ap Err same
+
 -- what is told stays so while files stay
 pub IfSome-same : {A : Type 0} (P : A → Type 0) (now before : Option A) → now ≡ before → IfSome now P → IfSome before P
 IfSome-same P now before same fact = subst (λ (o : Option _). IfSome o P) same fact
@@ -99,35 +120,45 @@ with_dictionaries-err : (files : List File) (before : List Dictionary) (name : L
 with_dictionaries-err files before name rest cause made =
     ap (λ (m : Result (List Dictionary) DictionaryCause). on_ok (in_stage (fault_at (length before + 1)) m) (λ d. with_dictionaries files d rest)) made
 
--- those that were read so far, and those that are left
-abbrev pub IsReadSoFar : List (List ℕ) → List Dictionary → ℕ → List File → Type 0
-IsReadSoFar names so_far place files = with_dictionaries files [] names ≡ with_dictionaries files so_far (drop place names)
+-- behind those that are known, those that were read so far, and those that are left
+abbrev pub IsReadSoFar : List Dictionary → List (List ℕ) → List Dictionary → ℕ → List File → Type 0
+IsReadSoFar known names so_far place files = with_dictionaries files known names ≡ with_dictionaries files (known ++ so_far) (drop place names)
 
 -- none was read yet
-pub none_read : (told : Option (List File)) (names : List (List ℕ)) (before : List Dictionary) → before ≡ [] → IfSome told (IsReadSoFar names before 0)
-none_read None names before is = tt
-none_read (Some files) names before is = ap (λ (first : List Dictionary). with_dictionaries files first names) (sym is)
+pub none_read : (told : Option (List File)) (known : List Dictionary) (names : List (List ℕ)) (before : List Dictionary) → before ≡ [] → IfSome told (IsReadSoFar known names before 0)
+none_read None known names before is = tt
+none_read (Some files) known names before is =
+    ap (λ (first : List Dictionary). with_dictionaries files first names) (sym (ap (λ (found : List Dictionary). known ++ found) is ∙ append-nil known))
 
 -- one more was read
-pub read_more : (told now : Option (List File)) (names : List (List ℕ)) (before after : List Dictionary) (place : ℕ) (name : List ℕ) → now ≡ told →
-    slice_get names place ≡ Some name → IfSome told (IsReadSoFar names before place) → IfSome now (λ files. with_dictionary files before name ≡ Ok after) →
-    IfSome told (IsReadSoFar names after (place + 1))
-read_more None now names before after place name same at sofar made = tt
-read_more (Some files) now names before after place name same at sofar made =
-    sofar ∙ ap (with_dictionaries files before) (drop-at names place name at)
-    ∙ with_dictionaries-ok files before after name (drop (place + 1) names) (IfSome-same (λ files. with_dictionary files before name ≡ Ok after) now (Some files) same made)
+pub read_more : (told now : Option (List File)) (known : List Dictionary) (names : List (List ℕ)) (before after : List Dictionary) (place : ℕ) (name : List ℕ) → now ≡ told →
+    slice_get names place ≡ Some name → IfSome told (IsReadSoFar known names before place) → IfSome now (λ files. with_dictionary files before name ≡ Ok after) →
+    IfSome told (IsReadSoFar known names after (place + 1))
+read_more None now known names before after place name same at sofar made = tt
+read_more (Some files) now known names before after place name same at sofar made =
+    sofar ∙ ap (with_dictionaries files (known ++ before)) (drop-at names place name at)
+    ∙ with_dictionaries-ok files (known ++ before) (known ++ after) name (drop (place + 1) names)
+    (behind_known files known before after name (IfSome-same (λ files. with_dictionary files before name ≡ Ok after) now (Some files) same made))
 
 -- the next one is at fault
-pub read_to_fault : (told now : Option (List File)) (names : List (List ℕ)) (before : List Dictionary) (place : ℕ) (name : List ℕ) (cause : DictionaryCause) → now ≡ told →
-    length before ≡ place → slice_get names place ≡ Some name → IfSome told (IsReadSoFar names before place) →
+pub read_to_fault : (told now : Option (List File)) (known : List Dictionary) (names : List (List ℕ)) (before : List Dictionary) (place number : ℕ) (name : List ℕ) (cause : DictionaryCause) → now ≡ told →
+    length before ≡ place → number ≡ length known + place + 1 → slice_get names place ≡ Some name → IfSome told (IsReadSoFar known names before place) →
     IfSome now (λ files. is_free (cause_status cause) ≡ false → with_dictionary files before name ≡ Err cause) →
-    IfSome told (λ files. is_free (cause_status cause) ≡ false → with_dictionaries files [] names ≡ Err (fault_at (place + 1) cause))
-read_to_fault None now names before place name cause same count at sofar made = tt
-read_to_fault (Some files) now names before place name cause same count at sofar made = λ free.
-    sofar ∙ ap (with_dictionaries files before) (drop-at names place name at)
-    ∙ with_dictionaries-err files before name (drop (place + 1) names) cause
-    (IfSome-same (λ files. is_free (cause_status cause) ≡ false → with_dictionary files before name ≡ Err cause) now (Some files) same made free)
-    ∙ ap (λ (k : ℕ). Err (fault_at (k + 1) cause)) count
+    IfSome told (λ files. is_free (cause_status cause) ≡ false → with_dictionaries files known names ≡ Err (fault_at number cause))
+read_to_fault None now known names before place number name cause same count is at sofar made = tt
+read_to_fault (Some files) now known names before place number name cause same count is at sofar made = λ free.
+    let numbered : length (known ++ before) + 1 ≡ number = omega (arith, length-append known before, count, is) in
+    sofar ∙ ap (with_dictionaries files (known ++ before)) (drop-at names place name at)
+    ∙ with_dictionaries-err files (known ++ before) name (drop (place + 1) names) cause
+    (refused_behind files known before name cause
+    (IfSome-same (λ files. is_free (cause_status cause) ≡ false → with_dictionary files before name ≡ Err cause) now (Some files) same made free))
+    ∙ ap (λ (k : ℕ). Err (fault_at k cause)) numbered
+
+-- ---- their names
+
+pub names_more : (names : List (List ℕ)) (place : ℕ) (name : List ℕ) (before after : List Dictionary) → slice_get names place ≡ Some name →
+    names_of before ≡ take place names → names_of after ≡ names_of before ++ name ∷ [] → names_of after ≡ take (place + 1) names
+names_more names place name before after at sofar more = more ∙ ap (λ (front : List (List ℕ)). front ++ name ∷ []) sofar ∙ sym (take-at names place name at)
 
 -- ---- the names that are asked
 

@@ -1,5 +1,5 @@
 -- The dictionaries that files hold, read one after the other.
-use Rattle.std.specs.Prelude.{ℕ, ◌+◌, nat_lt, List, [], ◌∷◌, ◌++◌, length, Result, Ok, Err, if◌then◌else◌}
+use Rattle.std.specs.Prelude.{ℕ, ◌+◌, nat_lt, List, [], ◌∷◌, ◌++◌, length, map, Result, Ok, Err, if◌then◌else◌}
 use Rattle.dictionaries.specs.Grammar.{dictionary_of}
 use Rattle.dictionaries.specs.WordList.{WordList}
 use Rattle.pd_outside.specs.Files.{File, bytes_of}
@@ -24,6 +24,10 @@ words_in files name = words_of (bytes_of files name)
 -- words under a name
 abbrev pub words_named : List ℕ → WordList → Dictionary
 words_named name words = record { name = name; words = words }
+
+-- the names of dictionaries
+abbrev pub names_of : List Dictionary → List (List ℕ)
+names_of dictionaries = map (λ (dictionary : Dictionary). dictionary.name) dictionaries
 
 -- some dictionaries with one more behind them, that of a name
 abbrev pub with_dictionary : List File → List Dictionary → List ℕ → Result (List Dictionary) DictionaryCause

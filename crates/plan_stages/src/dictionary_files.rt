@@ -1,9 +1,9 @@
 //! Dictionaries, read from files one after the other.
 
-ghost use Rattle.std.specs.Prelude.{◌≡◌, ◌≤◌, ◌⊎◌, ◌+◌, ◌++◌, [], Err, IfErr, IfSome, Ok, OnOk, false, length};
+ghost use Rattle.std.specs.Prelude.{◌≡◌, ◌≤◌, ◌⊎◌, ◌+◌, ◌++◌, [], ◌∷◌, Err, IfErr, IfOk, IfSome, Ok, OnOk, false, length};
 ghost use Rattle.std.specs.Option.{option_map};
 ghost use Rattle.pd_outside.specs.Library.{AskedAtMost, ask};
-ghost use Rattle.plan_stages.specs.DictionaryFiles.{dictionaries_status, with_dictionaries, with_dictionary};
+ghost use Rattle.plan_stages.specs.DictionaryFiles.{dictionaries_status, names_of, with_dictionaries, with_dictionary};
 ghost use Rattle.plan_stages.specs.Limits.{dictionary_limit};
 ghost use Rattle.plan_stages.specs.PlanNames.{up_to_fault, AskedNone, AsksNames};
 ghost use Rattle.plan_stages.specs.Stages.{ended, told_files, Decides, IsReadOut, LibraryAfter};
@@ -19,16 +19,22 @@ use std::alloc::Global;
 /// The most bytes of a dictionary.
 const DICTIONARY_LIMIT: u64 = 16_777_216;
 
-/// Reads the dictionaries of these names, one after the other, up to the first fault.
-pub(crate) fn read_dictionaries<L: Library>(
+/// Reads the dictionaries of these names, one after the other, up to the first fault. Their numbers go on from those of the dictionaries
+/// that are known already.
+///
+/// A dictionary has at most 16,777,216 bytes. Any cause can also tell that memory is wanting. If the library doesn't tell its files, the
+/// clauses say only what can be said.
+pub fn read_dictionaries<L: Library>(
     alloc: Global,
     library: &mut L,
+    known: &Dictionaries,
     names: &Texts,
 ) -> Result<Dictionaries, DictionaryFault>
     requires taken { L.taken library.old ≤ dictionary_limit }
     requires read_out { IsReadOut (L.content library.old) }
     ensures read { IfSome (told_files (L.content library.old)) (λ files.
-        Decides dictionaries_status (λ dictionaries. dictionaries) result (with_dictionaries files [] names.now)) }
+        Decides dictionaries_status (λ found. known.now ++ found) result (with_dictionaries files known.now names.now)) }
+    ensures named { IfOk result (λ found. names_of found ≡ names.now) }
     ensures after { LibraryAfter (ended dictionaries_status result) dictionary_limit (told_files (L.content library.old)) (L.content library.new)
         (L.taken library.new) (L.is_started library.new) (L.counts library.old) (L.counts library.new) }
     ensures longer { L.taken library.new ≡ dictionary_limit + 1 → ended dictionaries_status result ≡ 10 }
@@ -37,6 +43,13 @@ pub(crate) fn read_dictionaries<L: Library>(
     ensures readable { OnOk result (IfSome (told_files (L.content library.old)) (λ files. up_to_fault files names.now ≡ names.now)) }
     ensures unasked { AskedNone (L.asked library.old) (L.asked library.new) → L.taken library.new ≤ L.taken library.old }
 {
+    let before = known.len();
+    if usize::MAX - before < names.len() {
+        return Err(DictionaryFault {
+            number: 0,
+            cause: DictionaryCause::Memory, // no memory holds so many
+        });
+    }
     let mut dictionaries = Dictionaries::new(alloc);
     for place in 0..names.len() {
         let name = names.get(place).as_str();
@@ -44,7 +57,7 @@ pub(crate) fn read_dictionaries<L: Library>(
             Ok(()) => {}
             Err(cause) => {
                 return Err(DictionaryFault {
-                    number: place as u64 + 1,
+                    number: (before + place) as u64 + 1,
                     cause,
                 });
             }
@@ -64,6 +77,7 @@ fn add_dictionary<L: Library>(
     ensures refused { IfSome (told_files (L.content library.old)) (λ files.
         IfErr result (λ cause. is_free (cause_status cause) ≡ false → with_dictionary files dictionaries.old name.now ≡ Err cause)) }
     ensures count { OnOk result (length dictionaries.new ≡ length dictionaries.old + 1) }
+    ensures named { OnOk result (names_of dictionaries.new ≡ names_of dictionaries.old ++ name.now ∷ []) }
     ensures after { LibraryAfter (ended cause_status result) dictionary_limit (told_files (L.content library.old)) (L.content library.new)
         (L.taken library.new) (L.is_started library.new) (L.counts library.old) (L.counts library.new) }
     ensures longer { L.taken library.new ≡ dictionary_limit + 1 → ended cause_status result ≡ 10 }

@@ -6,6 +6,7 @@ mod input_files;
 mod inputs;
 mod plan;
 
+pub use dictionary_files::read_dictionaries;
 pub use input_files::read_in_turn;
 pub use inputs::{Inputs, UnreadInput};
 pub use plan::plan_of;

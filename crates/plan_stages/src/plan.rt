@@ -3,6 +3,7 @@
 ghost use Rattle.std.specs.Prelude.{◌≡◌, ◌≢◌, ◌≤◌, ◌⊎◌, ◌+◌, ◌++◌, IfOk, IfSome, OnOk};
 ghost use Rattle.std.specs.Option.{option_map};
 ghost use Rattle.schema_read.specs.Schema.{schema_of};
+ghost use Rattle.plan_stages.specs.DictionaryFiles.{names_of};
 ghost use Rattle.plan_stages.specs.Limits.{dictionary_limit, schema_limit};
 ghost use Rattle.plan_stages.specs.PlanNames.{cited_by, cited_by_read, up_to_fault, AskedAlone, AskedNone, AsksForPlan, AsksNames, PlanRead};
 ghost use Rattle.plan_stages.specs.Plans.{limit_at, plan_in, plan_of_text, planned};
@@ -14,7 +15,7 @@ use pd_outside::{Library, read_whole};
 use refusals::PlanFault;
 use schema_check::{check, citations};
 use schema_model::Schema;
-use schema_plan::Plan;
+use schema_plan::{Dictionaries, Plan};
 use schema_read::read_schema;
 use std::alloc::Global;
 
@@ -45,6 +46,7 @@ pub fn plan_of<L: Library>(alloc: Global, library: &mut L, name: &str) -> Result
     // A plan tells which text was read, and that each of these names was asked.
     ensures read { IfOk result (λ plan.
         PlanRead plan.schema name.now (told_files (L.content library.old)) (L.asked library.old) (L.asked library.new)) }
+    ensures named { IfOk result (λ plan. names_of plan.dictionaries ≡ cited_by plan.schema) }
 {
     let bytes = read_whole(alloc, library, name, SCHEMA_LIMIT)?;
     plan_of_text(alloc, library, &bytes)
@@ -64,6 +66,7 @@ fn plan_of_text<L: Library>(alloc: Global, library: &mut L, bytes: &[u8]) -> Res
     ensures readable { OnOk result (IfSome (told_files (L.content library.old)) (λ files.
         up_to_fault files (cited_by_read (schema_of bytes.now)) ≡ cited_by_read (schema_of bytes.now))) }
     ensures read { IfOk result (λ plan. schema_of bytes.now ≡ Ok plan.schema) }
+    ensures named { IfOk result (λ plan. names_of plan.dictionaries ≡ cited_by plan.schema) }
     ensures unasked { AskedNone (L.asked library.old) (L.asked library.new) → L.taken library.new ≤ L.taken library.old }
 {
     let schema = read_schema(alloc, bytes)?;
@@ -87,9 +90,10 @@ fn plan_of_schema<L: Library>(
     ensures asked_all { OnOk result (L.asked library.new ≡ option_map (λ all. all ++ cited_by schema) (L.asked library.old)) }
     ensures readable { OnOk result (IfSome (told_files (L.content library.old)) (λ files. up_to_fault files (cited_by schema) ≡ cited_by schema)) }
     ensures of_schema { IfOk result (λ plan. plan.schema ≡ schema) }
+    ensures named { IfOk result (λ plan. names_of plan.dictionaries ≡ cited_by schema) }
     ensures unasked { AskedNone (L.asked library.old) (L.asked library.new) → L.taken library.new ≤ L.taken library.old }
 {
     let names = citations(alloc, &schema)?;
-    let dictionaries = read_dictionaries(alloc, library, &names)?;
+    let dictionaries = read_dictionaries(alloc, library, &Dictionaries::new(alloc), &names)?;
     Ok(check(alloc, schema, dictionaries)?)
 }

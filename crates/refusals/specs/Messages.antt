@@ -197,6 +197,7 @@ abbrev pub details_text : DetailsCause → List ℕ
 details_text (details.Reading fault) = reading_details_text fault
 details_text details.Syntax = codes "details: not TOML"
 details_text details.WrongForm = codes "details: wrong form"
+details_text (details.Dictionary fault) = cause_text fault.number fault.cause
 details_text (details.Rule number) = codes "rule E" ++ decimal number
 details_text details.Memory = codes "out of memory"
 
@@ -302,6 +303,10 @@ worked_undone_input = refl
 worked_details_rule : message_of (Job (job.Details (details.Rule 3))) ≡ codes "pdgf: rule E3\n"
 unfolding digits
 worked_details_rule = refl
+
+worked_dictionary_of_details : message_of (Job (job.Details (details.Dictionary (record { number = 2; cause = cause.Grammar (grammar.BadWeight 1) })))) ≡ codes "pdgf: dictionary 2: bad weight at line 1\n"
+unfolding digits
+worked_dictionary_of_details = refl
 
 worked_long_input : message_of (Job (job.Input (record { file = codes "customer.tbl"; cause = input.Reading reading.TooLong }))) ≡ codes "pdgf: too long: customer.tbl\n"
 worked_long_input = refl

@@ -68,6 +68,7 @@ abbrev pub details_status : DetailsCause → ℕ
 details_status (details.Reading fault) = reading_status fault
 details_status details.Syntax = 3
 details_status details.WrongForm = 3
+details_status (details.Dictionary fault) = cause_status fault.cause
 details_status (details.Rule number) = 4
 details_status details.Memory = 7
 

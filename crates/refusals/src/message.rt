@@ -109,14 +109,15 @@ fn put_plan_fault(message: &mut Message, fault: PlanFault)
 
 /// Appends why the file of a declaration gives no detail table.
 fn put_details_fault(message: &mut Message, cause: DetailsCause)
-    requires { length message.old + 50 ≤ Message.ROOM }
+    requires { length message.old + 100 ≤ Message.ROOM }
     ensures text { message.new ≡ message.old ++ details_text cause }
-    ensures short { length message.new ≤ length message.old + 50 }
+    ensures short { length message.new ≤ length message.old + 100 }
 {
     match cause {
         DetailsCause::Reading(fault) => message.put(reading_details_words(fault).as_bytes()),
         DetailsCause::Syntax => message.put(b"details: not TOML"),
         DetailsCause::WrongForm => message.put(b"details: wrong form"),
+        DetailsCause::Dictionary(fault) => put_dictionary_fault(message, fault),
         DetailsCause::Rule(number) => put_counted(message, b"rule E", u64::from(number)),
         DetailsCause::Memory => message.put(b"out of memory"),
     }

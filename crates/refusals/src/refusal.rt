@@ -3,6 +3,7 @@
 ghost use Rattle.std.specs.Prelude.{◌≡◌};
 ghost use Rattle.refusals.specs.Messages.{message_of};
 ghost use Rattle.refusals.specs.Statuses.{applying_status, reading_status, status_of};
+ghost use Rattle.refusals.specs.declared.refusal.DetailsCause.TheVariants as details_cause;
 ghost use Rattle.refusals.specs.declared.refusal.DictionaryCause.TheVariants as dictionary_cause;
 ghost use Rattle.refusals.specs.declared.refusal.InputCause.TheVariants as input_cause;
 ghost use Rattle.refusals.specs.declared.refusal.PlanFault.TheVariants as plan_fault;
@@ -131,6 +132,8 @@ pub enum DetailsCause {
     Syntax,
     /// A key is missing, is of another type, or has no place there.
     WrongForm,
+    /// A word list that the declaration cites isn't read.
+    Dictionary(DictionaryFault),
     /// The declaration breaks the rule of this number, and none before it. The number 1 means E1.
     Rule(u32),
     /// Memory ran out.
@@ -184,6 +187,7 @@ impl DetailsCause {
         match self {
             DetailsCause::Reading(fault) => reading_status(fault),
             DetailsCause::Syntax | DetailsCause::WrongForm => 3,
+            DetailsCause::Dictionary(fault) => fault.cause.status(),
             DetailsCause::Rule(_) => 4,
             DetailsCause::Memory => 7,
         }
@@ -333,6 +337,22 @@ impl From<DictionaryFault> for PlanFault {
 
     fn from(fault: DictionaryFault) -> PlanFault {
         PlanFault::Dictionary(fault)
+    }
+}
+
+impl From<ReadFault> for DetailsCause {
+    ghost from_gives = { λ fault made. made ≡ details_cause.Reading fault };
+
+    fn from(fault: ReadFault) -> DetailsCause {
+        DetailsCause::Reading(fault)
+    }
+}
+
+impl From<DictionaryFault> for DetailsCause {
+    ghost from_gives = { λ fault made. made ≡ details_cause.Dictionary fault };
+
+    fn from(fault: DictionaryFault) -> DetailsCause {
+        DetailsCause::Dictionary(fault)
     }
 }
 

@@ -7,6 +7,8 @@ mod applied;
 #[cfg(test)]
 mod citations;
 #[cfg(test)]
+mod detail_lists;
+#[cfg(test)]
 mod details;
 #[cfg(test)]
 mod details_applied;

@@ -16,6 +16,26 @@ name = "born"
 kind = "born"
 "#;
 
+/// The table of `ONE` with a column of words.
+pub const ONE_CITING: &str = r#"seed = 1
+units = 2
+[[table]]
+name = "t"
+rows = 1
+insert = 1
+[[table.column]]
+name = "id"
+kind = "key"
+base = 1
+[[table.column]]
+name = "born"
+kind = "born"
+[[table.column]]
+name = "w"
+kind = "dict"
+file = "names.txt"
+"#;
+
 /// The table of `ONE` with scrambled keys. They stay in place in cohorts of one row.
 pub const ONE_SCRAMBLED: &str = r#"seed = 1
 units = 2

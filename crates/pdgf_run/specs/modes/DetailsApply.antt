@@ -1,6 +1,7 @@
 -- Mode details-apply: the text of a detail table at a unit and the streams of later units, read from files, and the text that they make.
-use Rattle.std.specs.Prelude.{◌≡◌, ◌≤◌, ℕ, ◌+◌, ◌-◌, nat_lt, List, [], ◌∷◌, flat_map, None, Result, Ok, Err, if◌then◌else◌}
+use Rattle.std.specs.Prelude.{◌≡◌, ◌≤◌, ℕ, ◌+◌, ◌-◌, nat_lt, List, [], ◌∷◌, ◌++◌, flat_map, None, Result, Ok, Err, if◌then◌else◌}
 use Rattle.std.specs.List.{range_with_len}
+use Rattle.dictionaries.specs.WordList.{WordList}
 use Rattle.pd_outside.specs.Files.{File}
 use Rattle.plan_stages.specs.Inputs.{inputs_of, total_length}
 use Rattle.refusals.specs.declared.refusal.DetailsCause.{DetailsCause}
@@ -11,10 +12,11 @@ use Rattle.request_words.specs.declared.usage.Request.{Request}
 use Rattle.schema_plan.specs.Dictionaries.{Project}
 use Rattle.schema_plan.specs.Layout.{layout_of}
 use Rattle.stream_apply.specs.declared.key_fields.KeyFields.TheVariants.{Two}
+use Rattle.detail_plan.specs.Kept.{Kept}
 use Rattle.detail_plan.specs.declared.detail.Detail.{Detail}
 use Rattle.detail_rows.specs.Applying.{detail_streams}
 use Rattle.detail_rows.specs.Lines.{detail_text}
-use Rattle.pdgf_run.specs.Details.{detail_in, detail_of_text}
+use Rattle.pdgf_run.specs.Details.{declaration_names, detail_in, detail_with_words, possible_declaration}
 use Rattle.pdgf_run.specs.Replay.{AreDueFor, IsReplayOf, input_limit, input_paths, paths_of, possible_of}
 use Rattle.pdgf_run.specs.declared.replay.Replay.{Replay}
 use Rattle.pdgf_run.specs.declared.replay.Way.TheVariants as way
@@ -36,8 +38,8 @@ apply_of_detail detail = record { way = way.Apply Two; names = detail.name ∷ [
 abbrev pub AreDetailsOf : Project → Request → List File → Detail → Result (List File) JobFault → Type 0
 AreDetailsOf plan request files detail answer = IsReplayOf apply_of_detail (layout_of plan).delimiter request files (detail_asked plan request detail) answer
 
-abbrev pub AreDeclared : Project → Request → List File → Result Detail DetailsCause → Result (List File) JobFault → Type 0
-AreDeclared plan request files (Ok detail) answer = AreDetailsOf plan request files detail answer
+abbrev pub AreDeclared : Project → Request → List File → Result Kept DetailsCause → Result (List File) JobFault → Type 0
+AreDeclared plan request files (Ok kept) answer = AreDetailsOf plan request files kept.detail answer
 AreDeclared plan request files (Err cause) answer = answer ≡ Err (job.Details cause)
 
 -- what the mode is due over files: a file that declares no detail table is refused first, then the first unit past the last one, then a
@@ -48,18 +50,18 @@ IsDetailsApplyDue plan request files answer = AreDeclared plan request files (de
 -- ---- inputs that a simulation gives
 
 -- what a detail table holds at a unit and what each unit after it changes, as many as `count`, in the order of the inputs
-abbrev pub detail_inputs : Project → Detail → ℕ → ℕ → List (List ℕ)
-detail_inputs plan detail from count = detail_text plan detail from ∷ flat_map (detail_streams plan detail) (range_with_len (from + 1) count)
+abbrev pub detail_inputs : Project → Kept → ℕ → ℕ → List (List ℕ)
+detail_inputs plan kept from count = detail_text plan kept from ∷ flat_map (detail_streams plan kept) (range_with_len (from + 1) count)
 
 -- files hold these as the inputs of a request
-pub record HoldDetailInputs (plan : Project) (request : Request) (detail : Detail) (files : List File) : Type 0 where
-  pub texts : inputs_of files (input_paths request (apply_of_detail detail)) ≡ detail_inputs plan detail request.from (request.to - request.from)
-  pub within : total_length (inputs_of files (input_paths request (apply_of_detail detail))) ≤ input_limit
+pub record HoldDetailInputs (plan : Project) (request : Request) (kept : Kept) (files : List File) : Type 0 where
+  pub texts : inputs_of files (input_paths request (apply_of_detail kept.detail)) ≡ detail_inputs plan kept request.from (request.to - request.from)
+  pub within : total_length (inputs_of files (input_paths request (apply_of_detail kept.detail))) ≤ input_limit
 
 -- files are that of what the detail table holds at the last unit that is asked for
-abbrev pub AreLaterDetails : Project → Request → Detail → List File → Type 0
-AreLaterDetails plan request detail due =
-    AreDueFor (layout_of plan).delimiter request (apply_of_detail detail) (detail_text plan detail request.to ∷ []) due
+abbrev pub AreLaterDetails : Project → Request → Kept → List File → Type 0
+AreLaterDetails plan request kept due =
+    AreDueFor (layout_of plan).delimiter request (apply_of_detail kept.detail) (detail_text plan kept request.to ∷ []) due
 
 -- ---- the names that are asked
 
@@ -70,17 +72,17 @@ detail_paths_asked plan request files detail = paths_of apply_of_detail request 
 abbrev pub detail_paths_possible : Project → Request → Detail → List (List ℕ)
 detail_paths_possible plan request detail = possible_of apply_of_detail request (detail_asked plan request detail)
 
--- the names after the declaration's, where it declares a detail table
-abbrev pub behind_declared : (Detail → List (List ℕ)) → Result Detail DetailsCause → List (List ℕ)
-behind_declared names (Ok detail) = names detail
+-- the names after those of the declaration and its word lists, where it declares a detail table
+abbrev pub behind_declared : (Detail → List (List ℕ)) → Result Kept DetailsCause → List (List ℕ)
+behind_declared names (Ok kept) = names kept.detail
 behind_declared names (Err cause) = []
 
--- the name of the declaration, and then those of the inputs, up to and with the first with which they are too long
+-- the names of the declaration and its word lists, and then those of the inputs, up to and with the first with which they are too long
 abbrev pub details_apply_asked : Project → Request → List File → List (List ℕ)
 details_apply_asked plan request files =
-    request.spec ∷ behind_declared (detail_paths_asked plan request files) (detail_in plan files request.spec)
+    declaration_names plan files request.spec ++ behind_declared (detail_paths_asked plan request files) (detail_in plan files request.spec)
 
--- those that may be asked, where the declaration has these bytes
-abbrev pub details_apply_possible : Project → Request → List ℕ → List (List ℕ)
-details_apply_possible plan request bytes =
-    request.spec ∷ behind_declared (detail_paths_possible plan request) (detail_of_text plan bytes)
+-- those that may be asked, where the declaration has these bytes, and its word lists these words
+abbrev pub details_apply_possible : Project → Request → List ℕ → List WordList → List (List ℕ)
+details_apply_possible plan request bytes words =
+    possible_declaration plan bytes request.spec ++ behind_declared (detail_paths_possible plan request) (detail_with_words plan bytes words)

@@ -4,7 +4,6 @@ ghost use Rattle.std.specs.Prelude.{◌≡◌, ◌≢◌, ◌<◌, ◌≤◌, �
 ghost use Rattle.std.specs.List.{sum_by};
 ghost use Rattle.std.specs.Option.{option_map};
 ghost use Rattle.pd_outside.specs.Faults.{FailedAtLast, Unfailed};
-ghost use Rattle.pd_outside.specs.Library.{AskedPrefixOf};
 ghost use Rattle.pd_outside.specs.Shelf.{HoldsPrefixOf, finish_files};
 ghost use Rattle.plan_stages.specs.Limits.{schema_limit};
 ghost use Rattle.plan_stages.specs.PlanNames.{AskedNone};
@@ -15,9 +14,10 @@ ghost use Rattle.life_intervals.specs.Generator.{last_unit};
 ghost use Rattle.life_intervals.specs.JobOrders.{AreOrdersOf};
 ghost use Rattle.update_box.specs.Cuts.{text_in};
 ghost use Rattle.update_box.specs.TableLists.{HoldLists};
-ghost use Rattle.detail_plan.specs.Rules.{KeepsRules, reach_of};
+ghost use Rattle.detail_plan.specs.Kept.{KeepsRules};
 ghost use Rattle.detail_rows.specs.Lines.{parent_place};
 ghost use Rattle.detail_rows.specs.Packages.{AreTold, count_of, range_text, rows_in, text_numbered};
+ghost use Rattle.pdgf_run.specs.Details.{AsksForDetails};
 ghost use Rattle.pdgf_run.specs.DueFiles.{contents_of, default_package, most_page_bytes, page_bytes, told_by};
 ghost use Rattle.pdgf_run.specs.Formats.{in_directory};
 ghost use Rattle.pdgf_run.specs.Joined.{whole_text};
@@ -71,11 +71,11 @@ pub(crate) fn plan_details<B: Ledger, L: Library>(
     ensures usable { ended job_status result ≢ 2 }
     ensures schema_read { ended job_status result ≡ 3 → L.taken library.new ≤ schema_limit }
     ensures within { (ended job_status result ≡ 0) ⊎ (ended job_status result ≡ 9) → L.taken library.new ≤ input_limit }
-    ensures asked { AskedPrefixOf (request.now.spec ∷ []) (L.asked library.old) (L.asked library.new) }
+    ensures asked { AsksForDetails plan request.now.spec (told_files (L.content library.old)) (L.asked library.old) (L.asked library.new) }
     ensures unasked { AskedNone (L.asked library.old) (L.asked library.new) → L.taken library.new ≤ L.taken library.old }
 {
     match read_details(alloc, library, &plan, request.spec.as_str()) {
-        Ok(detail) => declared_job::<B>(alloc, plan, detail, request, told, blank),
+        Ok(kept) => declared_job::<B>(alloc, plan, kept, request, told, blank),
         Err(cause) => Err(JobFault::Details(cause)),
     }
 }
@@ -84,7 +84,7 @@ pub(crate) fn plan_details<B: Ledger, L: Library>(
 fn declared_job<B: Ledger>(
     alloc: Global,
     plan: Plan,
-    detail: DetailPlan,
+    kept: DetailPlan,
     request: &Request,
     told: Told,
     blank: Blank,
@@ -93,17 +93,17 @@ fn declared_job<B: Ledger>(
     requires parts { blank.parts ≡ B.parts }
     requires some { 0 < blank.parts }
     requires ranges { CanPackBy request.now }
-    requires keeps { KeepsRules plan detail }
-    ensures job { Decides job_status due_of result (details_of told plan request.now detail) }
-    ensures in_range { IfErr result (λ fault. job_status fault ≡ 7 → IsOk (details_asked told plan request.now detail)) }
+    requires keeps { KeepsRules plan kept }
+    ensures job { Decides job_status due_of result (details_of told plan request.now kept) }
+    ensures in_range { IfErr result (λ fault. job_status fault ≡ 7 → IsOk (details_asked told plan request.now kept)) }
     ensures refused { IfErr result (λ fault. (job_status fault ≡ 7) ⊎ (job_status fault ≡ 8)) }
     ensures can { IfOk result CanFill }
 {
-    let size = match asked_size(&plan, &detail, request, told) {
+    let size = match asked_size(&plan, &kept, request, told) {
         Ok(size) => size,
         Err(fault) => return Err(fault),
     };
-    match made_job::<B>(alloc, plan, detail, request, size, told, blank) {
+    match made_job::<B>(alloc, plan, kept, request, size, told, blank) {
         Ok(job) => Ok(Job::Details(job)),
         Err(Memory) => Err(JobFault::Memory),
     }
@@ -122,51 +122,51 @@ fn is_refused(told: Told, plan: &Plan, unit: u64) -> bool
 }
 
 /// Returns how many rows of the parent a package of a request has.
-fn package_of(plan: &Plan, detail: &DetailPlan, request: &Request) -> u64
-    requires keeps { KeepsRules plan.now detail.now }
+fn package_of(plan: &Plan, kept: &DetailPlan, request: &Request) -> u64
+    requires keeps { KeepsRules plan.now kept.now }
     requires ranges { CanPackBy request.now }
-    ensures rows { result ≡ detail_package plan.now request.now detail.now }
+    ensures rows { result ≡ detail_package request.now kept.now }
     ensures some_row { 1 ≤ result }
     ensures row_limit { result ≤ 1000000 }
 {
     match request.package {
         Some(rows) => rows,
-        None => preset_package(plan, detail, request.workers),
+        None => preset_package(plan, kept, request.workers),
     }
 }
 
 /// Returns how many rows of the parent a package has if the request doesn't say.
-fn preset_package(plan: &Plan, detail: &DetailPlan, workers: u32) -> u64
-    requires keeps { KeepsRules plan.now detail.now }
+fn preset_package(plan: &Plan, kept: &DetailPlan, workers: u32) -> u64
+    requires keeps { KeepsRules plan.now kept.now }
     requires some_worker { 1 ≤ workers }
     requires worker_limit { workers ≤ 64 }
-    ensures rows { result ≡ default_package workers (reach_of plan.now detail.now) }
+    ensures rows { result ≡ default_package workers (kept.now.reach) }
     ensures some_row { 1 ≤ result }
     ensures row_limit { result ≤ 1000 }
 {
-    default_package(workers, detail.reach(plan))
+    default_package(workers, kept.reach(plan))
 }
 
 /// Whether the pages of the workers have more bytes together than is allowed. A package has `size` rows of the parent.
-fn is_past_room(plan: &Plan, detail: &DetailPlan, workers: u32, size: u64) -> bool
-    requires keeps { KeepsRules plan.now detail.now }
+fn is_past_room(plan: &Plan, kept: &DetailPlan, workers: u32, size: u64) -> bool
+    requires keeps { KeepsRules plan.now kept.now }
     requires worker_limit { workers ≤ 64 }
     requires size_limit { size ≤ 1000000 }
-    ensures { result ≡ nat_lt most_page_bytes (page_bytes workers size (reach_of plan.now detail.now)) }
+    ensures { result ≡ nat_lt most_page_bytes (page_bytes workers size (kept.now.reach)) }
 {
-    MOST_PAGE_BYTES < PAGES * u64::from(workers) * size * detail.reach(plan)
+    MOST_PAGE_BYTES < PAGES * u64::from(workers) * size * kept.reach(plan)
 }
 
 /// Returns how many rows of the parent a package has. Refuses the first option out of range: unit, package.
 fn asked_size(
     plan: &Plan,
-    detail: &DetailPlan,
+    kept: &DetailPlan,
     request: &Request,
     told: Told,
 ) -> Result<u64, JobFault>
-    requires keeps { KeepsRules plan.now detail.now }
+    requires keeps { KeepsRules plan.now kept.now }
     requires ranges { CanPackBy request.now }
-    ensures asked { result ≡ details_asked told plan.now request.now detail.now }
+    ensures asked { result ≡ details_asked told plan.now request.now kept.now }
     ensures rows { IfOk result IsPackageSize }
     ensures unit { OnOk result (is_refused told plan.now request.now.unit ≡ false) }
     ensures range { IfErr result (λ fault. job_status fault ≡ 8) }
@@ -174,8 +174,8 @@ fn asked_size(
     if is_refused(told, plan, request.unit) {
         return Err(JobFault::Range(OptionName::Unit));
     }
-    let size = package_of(plan, detail, request);
-    if is_past_room(plan, detail, request.workers, size) {
+    let size = package_of(plan, kept, request);
+    if is_past_room(plan, kept, request.workers, size) {
         return Err(JobFault::Range(OptionName::Package));
     }
     Ok(size)
@@ -225,15 +225,15 @@ fn names_of(
 fn orders_of(
     alloc: Global,
     plan: &Plan,
-    detail: &DetailPlan,
+    kept: &DetailPlan,
     unit: u64,
     told: Told,
 ) -> Result<JobOrders, Memory>
-    requires keeps { KeepsRules plan.now detail.now }
+    requires keeps { KeepsRules plan.now kept.now }
     requires unit { unit ≤ last_unit plan.now }
     ensures { IfOk result (λ orders. AreOrdersOf plan.now orders) }
 {
-    let parent = parent_of(plan, detail);
+    let parent = parent_of(plan, kept);
     let made = match told {
         Told::Text => JobOrders::new(alloc, plan, parent, 1, unit),
         Told::Changes => JobOrders::for_changes(alloc, plan, parent, 1, unit),
@@ -248,7 +248,7 @@ fn orders_of(
 fn changes_of<B: Ledger>(
     alloc: Global,
     plan: &Plan,
-    detail: &DetailPlan,
+    kept: &DetailPlan,
     orders: &JobOrders,
     unit: u64,
     told: Told,
@@ -257,18 +257,18 @@ fn changes_of<B: Ledger>(
     requires name { blank.name ≡ B.name }
     requires parts { blank.parts ≡ B.parts }
     requires some { 0 < blank.parts }
-    requires keeps { KeepsRules plan.now detail.now }
+    requires keeps { KeepsRules plan.now kept.now }
     requires orders { AreOrdersOf plan.now orders.now }
     requires unit { is_refused told plan.now unit ≡ false }
     ensures told { IfOk result (λ changes. told_by changes ≡ told) }
-    ensures found { IfOk result (λ changes. IfSome changes (λ lists. (1 ≤ unit) × HoldLists plan.now unit (Some (parent_place plan.now detail.now)) lists)) }
+    ensures found { IfOk result (λ changes. IfSome changes (λ lists. (1 ≤ unit) × HoldLists plan.now unit (Some (parent_place plan.now kept.now.detail)) lists)) }
 {
     match told {
         Told::Text => Ok(None),
         Told::Changes => {
             let mut steps = Steps::<B>::new(blank);
             let rows = life_intervals::Rows::with(plan, orders);
-            let parent = parent_of(plan, detail);
+            let parent = parent_of(plan, kept);
             let changes = rows_of_unit(alloc, &rows, Some(parent), unit, &mut steps)?;
             Ok(Some(changes))
         }
@@ -280,7 +280,7 @@ fn changes_of<B: Ledger>(
 fn made_job<B: Ledger>(
     alloc: Global,
     plan: Plan,
-    detail: DetailPlan,
+    kept: DetailPlan,
     request: &Request,
     size: u64,
     told: Told,
@@ -290,24 +290,24 @@ fn made_job<B: Ledger>(
     requires parts { blank.parts ≡ B.parts }
     requires some { 0 < blank.parts }
     requires ranges { CanPackBy request.now }
-    requires keeps { KeepsRules plan detail }
+    requires keeps { KeepsRules plan kept }
     requires rows { IsPackageSize size }
     requires unit { is_refused told plan request.now.unit ≡ false }
     ensures plan { IfOk result (λ job. job.plan ≡ plan) }
-    ensures detail { IfOk result (λ job. job.detail ≡ detail) }
+    ensures kept { IfOk result (λ job. job.kept ≡ kept) }
     ensures unit { IfOk result (λ job. job.unit ≡ request.now.unit) }
     ensures told { IfOk result (λ job. told_by job.changes ≡ told) }
     ensures names { IfOk result (λ job. job.names
-        ≡ option_map (λ directory. map (λ content. in_directory directory (detail_name detail request.now.unit content)) (contents_of told)) request.now.out) }
+        ≡ option_map (λ directory. map (λ content. in_directory directory (detail_name kept.detail request.now.unit content)) (contents_of told)) request.now.out) }
     ensures can { IfOk result CanPackDetails }
 {
-    let names = names_of(alloc, detail.detail(), request, told)?;
+    let names = names_of(alloc, kept.detail(), request, told)?;
     let unit = request.unit;
-    let orders = orders_of(alloc, &plan, &detail, unit, told)?;
-    let changes = changes_of::<B>(alloc, &plan, &detail, &orders, unit, told, blank)?;
+    let orders = orders_of(alloc, &plan, &kept, unit, told)?;
+    let changes = changes_of::<B>(alloc, &plan, &kept, &orders, unit, told, blank)?;
     Ok(DetailsJob {
         plan,
-        detail,
+        kept,
         orders,
         unit,
         size,
@@ -327,14 +327,14 @@ fn push_lines<'a>(
     told: PackedRows<'a>,
 ) -> Result<(), Memory>
     requires can { CanPackDetails job.now }
-    requires told { AreTold job.now.plan job.now.detail told }
-    requires few { sum_by count_of packers.old.parts.items + rows_in job.now.plan job.now.detail told ≤ 2 ^ 60 }
+    requires told { AreTold job.now.plan job.now.kept told }
+    requires few { sum_by count_of packers.old.parts.items + rows_in job.now.plan job.now.kept told ≤ 2 ^ 60 }
     ensures texts { OnOk result (map (whole_text count_of text_numbered) packers.new.parts.items
-        ≡ map (whole_text count_of text_numbered) packers.old.parts.items ++ range_text job.now.plan job.now.detail told.entry 0 (rows_in job.now.plan job.now.detail told.entry) ∷ []) }
-    ensures count { OnOk result (sum_by count_of packers.new.parts.items ≤ sum_by count_of packers.old.parts.items + rows_in job.now.plan job.now.detail told.entry) }
+        ≡ map (whole_text count_of text_numbered) packers.old.parts.items ++ range_text job.now.plan job.now.kept told.entry 0 (rows_in job.now.plan job.now.kept told.entry) ∷ []) }
+    ensures count { OnOk result (sum_by count_of packers.new.parts.items ≤ sum_by count_of packers.old.parts.items + rows_in job.now.plan job.now.kept told.entry) }
 {
     let rows = life_intervals::Rows::with(&job.plan, &job.orders);
-    let packer = match DetailPacker::new(alloc, rows, &job.detail, told, job.size) {
+    let packer = match DetailPacker::new(alloc, rows, &job.kept, told, job.size) {
         Ok(packer) => packer,
         Err(_) => return Err(Memory),
     };
@@ -347,7 +347,7 @@ fn push_lines<'a>(
 /// Returns the packer of a detail table's text.
 fn text_packers<'a>(alloc: Global, job: &'a DetailsJob) -> Result<Joined<DetailPacker<'a>>, Memory>
     requires can { CanPackDetails job.now }
-    ensures { IfOk result (λ packers. map (whole_text count_of text_numbered) packers.parts.items ≡ told_texts Told.Text job.now.plan job.now.detail job.now.unit) }
+    ensures { IfOk result (λ packers. map (whole_text count_of text_numbered) packers.parts.items ≡ told_texts Told.Text job.now.plan job.now.kept job.now.unit) }
 {
     let _limits = job.plan.schema(); // a table has at most 2^40 rows
     let mut packers = Joined::new(alloc);
@@ -363,11 +363,11 @@ fn change_packers<'a>(
 ) -> Result<Joined<DetailPacker<'a>>, Memory>
     requires can { CanPackDetails job.now }
     requires later { 1 ≤ job.now.unit }
-    requires found { HoldLists job.now.plan job.now.unit (Some (parent_place job.now.plan job.now.detail)) changes.now }
-    ensures { IfOk result (λ packers. map (whole_text count_of text_numbered) packers.parts.items ≡ told_texts Told.Changes job.now.plan job.now.detail job.now.unit) }
+    requires found { HoldLists job.now.plan job.now.unit (Some (parent_place job.now.plan job.now.kept.detail)) changes.now }
+    ensures { IfOk result (λ packers. map (whole_text count_of text_numbered) packers.parts.items ≡ told_texts Told.Changes job.now.plan job.now.kept job.now.unit) }
 {
     let _limits = job.plan.schema(); // a table has at most 2^40 rows
-    let parent = parent_of(&job.plan, &job.detail);
+    let parent = parent_of(&job.plan, &job.kept);
     let unit = job.unit;
     let mut packers = Joined::new(alloc);
     let deleted = changes.dels(parent);
@@ -391,7 +391,7 @@ fn change_packers<'a>(
 fn packers_of<'a>(alloc: Global, job: &'a DetailsJob) -> Result<Joined<DetailPacker<'a>>, Memory>
     requires can { CanPackDetails job.now }
     ensures { IfOk result (λ packers. map (whole_text count_of text_numbered) packers.parts.items
-        ≡ told_texts (told_by job.now.changes) job.now.plan job.now.detail job.now.unit) }
+        ≡ told_texts (told_by job.now.changes) job.now.plan job.now.kept job.now.unit) }
 {
     match &job.changes {
         None => text_packers(alloc, job),
@@ -406,10 +406,10 @@ fn marks_of(
     packers: &Joined<DetailPacker<'_>>,
 ) -> Result<Marks, Memory>
     requires can { CanPackDetails job.now }
-    requires texts { map (whole_text count_of text_numbered) packers.now.parts.items ≡ told_texts (told_by job.now.changes) job.now.plan job.now.detail job.now.unit }
+    requires texts { map (whole_text count_of text_numbered) packers.now.parts.items ≡ told_texts (told_by job.now.changes) job.now.plan job.now.kept job.now.unit }
     ensures marks { IfOk result (AreMarksOf (sum_by count_of packers.now.parts.items)) }
     ensures files { IfOk result (λ marks. due_files (text_in count_of text_numbered packers.now.parts.items) (sum_by count_of packers.now.parts.items) marks
-        ≡ files_by job.now.names (told_texts (told_by job.now.changes) job.now.plan job.now.detail job.now.unit)) }
+        ≡ files_by job.now.names (told_texts (told_by job.now.changes) job.now.plan job.now.kept job.now.unit)) }
 {
     match &job.names {
         None => match packers.mark_of_all(alloc, STANDARD_OUTPUT) {
@@ -434,9 +434,9 @@ pub(crate) fn write_details<R: Threads + Sync, S: Shelf, G: Gate + Sync>(
     requires can { CanPackDetails job.now }
     requires none_begun { S.is_begun shelf.old ≡ false }
     ensures files { OnOk result (S.held shelf.new
-        ≡ option_map (finish_files (files_by job.now.names (told_texts (told_by job.now.changes) job.now.plan job.now.detail job.now.unit))) (S.held shelf.old)) }
+        ≡ option_map (finish_files (files_by job.now.names (told_texts (told_by job.now.changes) job.now.plan job.now.kept job.now.unit))) (S.held shelf.old)) }
     ensures prefix { IsErrOf result RunFault.Write →
-        HoldsPrefixOf (files_by job.now.names (told_texts (told_by job.now.changes) job.now.plan job.now.detail job.now.unit)) (S.held shelf.old) (S.held shelf.new) }
+        HoldsPrefixOf (files_by job.now.names (told_texts (told_by job.now.changes) job.now.plan job.now.kept job.now.unit)) (S.held shelf.old) (S.held shelf.new) }
     ensures failed { IsErrOf result RunFault.Write → FailedAtLast (S.counts shelf.old) (S.counts shelf.new) }
     ensures memory { IsErrOf result RunFault.Memory → shelf.new ≡ shelf.old }
     ensures unfailed { OnOk result (Unfailed (S.counts shelf.old) (S.counts shelf.new)) }

@@ -1,6 +1,7 @@
 //! Mode details-apply: reads the text of a detail table and the streams of later units from files, and applies the streams.
 
 ghost use Rattle.std.specs.Prelude.{◌≡◌, ◌≢◌, ◌≤◌, ◌⊎◌, ℕ, List, IfErr, IfOk, IfSome, OnOk, Err, Ok};
+ghost use Rattle.dictionaries.specs.WordList.{WordList};
 ghost use Rattle.pd_outside.specs.Library.{AskedPrefixOf};
 ghost use Rattle.plan_stages.specs.Limits.{schema_limit};
 ghost use Rattle.plan_stages.specs.PlanNames.{AskedNone};
@@ -45,11 +46,12 @@ pub(crate) fn plan_details_apply<L: Library>(
     ensures within { (ended job_status result ≡ 0) ⊎ (ended job_status result ≡ 9) → L.taken library.new ≤ input_limit }
     ensures asked_told { IfSome (told_files (L.content library.old)) (λ files.
         AskedPrefixOf (details_apply_asked plan.now request.now files) (L.asked library.old) (L.asked library.new)) }
-    ensures asked { (details : List ℕ) × AskedPrefixOf (details_apply_possible plan.now request.now details) (L.asked library.old) (L.asked library.new) }
+    ensures asked { (details : List ℕ) × (lists : List WordList)
+        × AskedPrefixOf (details_apply_possible plan.now request.now details lists) (L.asked library.old) (L.asked library.new) }
     ensures unasked { AskedNone (L.asked library.old) (L.asked library.new) → L.taken library.new ≤ L.taken library.old }
 {
     match read_details(alloc, library, plan, request.spec.as_str()) {
-        Ok(detail) => apply_inputs(alloc, library, plan, detail.detail(), request),
+        Ok(kept) => apply_inputs(alloc, library, plan, kept.detail(), request),
         Err(cause) => Err(JobFault::Details(cause)),
     }
 }

@@ -3,7 +3,7 @@ use Rattle.std.proofs.lemmas.Result.{err_from_is_err_and}
 use Rattle.plan_stages.specs.Stages.{told_files}
 use Rattle.refusals.specs.Statuses.{done_status, job_status}
 use Rattle.pdgf_run.specs.TopCall.{reads_for}
-use Rattle.pdgf_run.proofs.DecideLemmas.{asks_of_words, decided_for_request, decided_for_words, left_by_request, left_by_words, limits_of_words}
+use Rattle.pdgf_run.proofs.DecideLemmas.{asks_nothing, where_asked, asks_of_words, decided_for_request, decided_for_words, left_by_request, left_by_words, limits_of_words}
 use Rattle.pdgf_run.proofs.decide.decide.Goals as goal
 
 pub returns-in_err-request-clause-verdict : goal.returns-in_err-request-clause-verdict
@@ -63,3 +63,11 @@ pub returns-clause-sampled : goal.returns-clause-sampled
 returns-clause-sampled g c = λ unread.
     decided_for_request _ (Some []) c.in_ok-request.request (Ok c.in_ok-job_of_request.field-0) c.in_ok-request.ensures.read
     (c.in_ok-job_of_request.ensures.sampled (sym (ap reads_for c.in_ok-request.ensures.read) ∙ unread))
+
+pub returns-in_err-request-clause-asked : goal.returns-in_err-request-clause-asked
+returns-in_err-request-clause-asked g c = asks_nothing _ _ _
+
+pub returns-in_err-job_of_request-clause-longer_schema : goal.returns-in_err-job_of_request-clause-longer_schema
+returns-in_err-job_of_request-clause-longer_schema g c =
+    let made = err_from_is_err_and c.from_residual-in_err-job_of_request.result c.from_residual-in_err-job_of_request.ensures.1 in
+    rw (made.1, made.2) (where_asked _ _ c.in_ok-request.request c.in_ok-request.ensures.read c.in_err-job_of_request.ensures.longer_schema)

@@ -25,7 +25,7 @@ returns-clause-left g c = left_with_plan _ _ _ _ _ _ _ _ _ _ _ _ _ c.in_ok-plan.
 
 pub returns-clause-asked : goal.returns-clause-asked
 returns-clause-asked g c =
-    asks_with_plan c.args.request.now c.as_str.result.now c.in_ok-plan.plan _ _ _ _ _ c.requires.reads c.as_str.ensures.value c.in_ok-plan.ensures.plan c.in_ok-plan.ensures.read
+    asks_with_plan c.args.request.now c.as_str.result.now c.in_ok-plan.plan _ _ _ _ _ c.requires.reads c.as_str.ensures.value c.in_ok-plan.ensures.plan c.in_ok-plan.ensures.named c.in_ok-plan.ensures.read
     c.in_ok-plan.ensures.after.files c.task_of.ensures.asked
 
 pub returns-in_err-plan-clause-limits : goal.returns-in_err-plan-clause-limits

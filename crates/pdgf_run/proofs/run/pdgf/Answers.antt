@@ -1,15 +1,19 @@
-use Rattle.std.proofs.Common.{◌≡◌, ◌≢◌, Ok, refl, sym, subst, map, string_bytes, false}
-use Rattle.std.specs.Prelude.{IsErr, ◌↔◌}
+use Rattle.std.proofs.Common.{◌≡◌, ◌≢◌, ◌≤◌, ◌+◌, ◌∙◌, ℕ, true, Ok, ap, refl, sym, subst, map, string_bytes, false}
+use Rattle.std.specs.Prelude.{IsErr, ◌↔◌, ◌⊎◌}
 use Rattle.pd_outside.proofs.Counts.{unfailed_same}
 use Rattle.pd_outside.specs.Faults.{FailedAtLast, Unfailed}
+use Rattle.plan_stages.specs.Limits.{dictionary_limit, schema_limit}
+use Rattle.plan_stages.specs.PlanNames.{AskedAlone}
 use Rattle.plan_stages.specs.Stages.{told_files}
+use Rattle.refusals.specs.Statuses.{status_of}
 use Rattle.request_words.specs.Words.{request}
 use Rattle.pdgf_run.specs.declared.report.Report.{Report}
 use Rattle.pdgf_run.specs.Playing.{task_due}
+use Rattle.pdgf_run.specs.ReadingList.{reads_on, reads_schema}
 use Rattle.pdgf_run.specs.TopCall.{IsPastLimit}
 use Rattle.pdgf_run.proofs.AppliedLemmas.{applied_carried, applied_refused}
 use Rattle.pdgf_run.proofs.CarriedLemmas.{refused_unread}
-use Rattle.pdgf_run.proofs.DecideLemmas.{refused-usage}
+use Rattle.pdgf_run.proofs.DecideLemmas.{longer-told, refused-usage, where_any, within-told}
 use Rattle.pdgf_run.proofs.DetailsAppliedLemmas.{details_applied_carried, details_applied_refused}
 use Rattle.pdgf_run.proofs.RevertedLemmas.{reverted_carried, reverted_refused}
 use Rattle.pdgf_run.proofs.ReportLemmas.{past_limit}
@@ -106,3 +110,26 @@ pub returns-in-Ok-clause-details_applied : goal.returns-in-Ok-clause-details_app
 returns-in-Ok-clause-details_applied g c = λ five six seven.
     details_applied_carried (map string_bytes c.args.words.now) (told_files (g.L.Library.content c.args.library.now)) (request (map string_bytes c.args.words.now)) c.in-Ok.task c.carry_out.result _ _
     refl c.in-Ok.ensures.limits c.in-Ok.ensures.verdict c.in-Ok.ensures.task c.carry_out.ensures.unfailed c.carry_out.ensures.carries six seven
+
+pub returns-in-Err-clause-longer_schema : goal.returns-in-Err-clause-longer_schema
+returns-in-Err-clause-longer_schema g c =
+    let told : c.refused.result.status ≡ status_of c.in-Err.refusal = ap (λ (r : Report). r.status) c.refused.ensures in
+    let taken : ℕ = g.L.Library.taken c.decide.new.library in
+    where_any (λ r. AskedAlone r.schema (g.L.Library.asked c.args.library.now) (g.L.Library.asked c.decide.new.library) → (taken ≤ schema_limit) ⊎ (status_of c.in-Err.refusal ≡ 10))
+    (λ r. AskedAlone r.schema (g.L.Library.asked c.args.library.now) (g.L.Library.asked c.decide.new.library) → taken ≡ schema_limit + 1 → c.refused.result.status ≡ 10)
+    (request (map string_bytes c.args.words.now))
+    (λ r given alone longer. longer-told taken schema_limit (status_of c.in-Err.refusal) c.refused.result.status told (given alone) longer) c.in-Err.ensures.longer_schema
+
+pub returns-in-Err-clause-longer_dictionary : goal.returns-in-Err-clause-longer_dictionary
+returns-in-Err-clause-longer_dictionary g c =
+    let told : c.refused.result.status ≡ status_of c.in-Err.refusal = ap (λ (r : Report). r.status) c.refused.ensures in
+    let long : Type 0 = g.L.Library.taken c.decide.new.library ≡ dictionary_limit + 1 in
+    where_any (λ r. reads_schema r.mode ≡ true → reads_on r.mode ≡ false → status_of c.in-Err.refusal ≢ 7 → long → status_of c.in-Err.refusal ≡ 10)
+    (λ r. reads_schema r.mode ≡ true → reads_on r.mode ≡ false → c.refused.result.status ≢ 7 → long → c.refused.result.status ≡ 10)
+    (request (map string_bytes c.args.words.now))
+    (λ r given reads off other longer. told ∙ given reads off (λ seven. other (told ∙ seven)) longer) c.in-Err.ensures.longer_dictionary
+
+pub returns-in-Err-clause-read_within : goal.returns-in-Err-clause-read_within
+returns-in-Err-clause-read_within g c =
+    let told : c.refused.result.status ≡ status_of c.in-Err.refusal = ap (λ (r : Report). r.status) c.refused.ensures in
+    within-told _ _ _ _ _ told c.in-Err.ensures.within

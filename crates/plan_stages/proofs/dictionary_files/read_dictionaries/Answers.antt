@@ -2,14 +2,16 @@ use Rattle.std.proofs.Common.{arith, ◌≡◌, ◌+◌, ℕ, Some, ap, sym, ◌
 use Rattle.std.specs.Prelude.{slice_get}
 use Rattle.pd_outside.proofs.Counts.{unfailed_same, unfailed_then}
 use Rattle.plan_stages.specs.Limits.{dictionary_limit}
-use Rattle.plan_stages.proofs.DictionaryLemmas.{asked_at_end, asked_more, asks_at_most, none_asked, none_read, none_readable, readable_at_end, readable_more, read_more, read_to_fault, unasked_at_end, unasked_at_fault}
+use Rattle.plan_stages.specs.DictionaryFiles.{names_of}
+use Rattle.plan_stages.proofs.DictionaryLemmas.{asked_at_end, asked_more, asks_at_most, names_more, none_asked, none_read, none_readable, readable_at_end, readable_more, read_more, read_to_fault, unasked_at_end, unasked_at_fault}
 use Rattle.plan_stages.proofs.LibraryLemmas.{after_done, after_step, all_read, done_of_itself}
 use Rattle.plan_stages.proofs.dictionary_files.read_dictionaries.Goals as goal
 
 pub loop-place-init : goal.loop-place-init
 loop-place-init g c = record {
   count = ap length c.new-dictionaries.ensures;
-  read = none_read _ _ _ c.new-dictionaries.ensures;
+  read = none_read _ c.args.known.now _ _ c.new-dictionaries.ensures;
+  named = ap names_of c.new-dictionaries.ensures;
   readable = none_readable _ _;
   asked = none_asked _;
   files = refl;
@@ -25,7 +27,8 @@ loop-place-preserved g c =
     let at : slice_get c.args.names.now c.loop-place.place ≡ Some c.as_str-name.result.now = c.get.ensures ∙ ap Some (sym c.as_str-name.ensures.value) in
     record {
       count = c.in-Ok.ensures.count ∙ ap (λ (k : ℕ). k + 1) inv.count;
-      read = read_more _ _ _ _ _ c.loop-place.place c.as_str-name.result.now inv.files at inv.read c.in-Ok.ensures.read;
+      read = read_more _ _ c.args.known.now _ _ _ c.loop-place.place c.as_str-name.result.now inv.files at inv.read c.in-Ok.ensures.read;
+      named = names_more _ c.loop-place.place c.as_str-name.result.now _ _ at inv.named c.in-Ok.ensures.named;
       readable = readable_more _ _ _ _ _ c.loop-place.place c.as_str-name.result.now inv.files at inv.readable c.in-Ok.ensures.read;
       asked = asked_more _ c.loop-place.place c.as_str-name.result.now _ _ _ at inv.asked c.in-Ok.ensures.asked;
       files = c.in-Ok.ensures.after.files ∙ inv.files;
@@ -39,7 +42,7 @@ pub returns-in-Err-clause-read : goal.returns-in-Err-clause-read
 returns-in-Err-clause-read g c =
     let inv = c.loop-place.invariant in
     let at : slice_get c.args.names.now c.loop-place.place ≡ Some c.as_str-name.result.now = c.get.ensures ∙ ap Some (sym c.as_str-name.ensures.value) in
-    read_to_fault _ _ _ _ c.loop-place.place c.as_str-name.result.now c.in-Err.cause inv.files inv.count at inv.read c.in-Err.ensures.refused
+    read_to_fault _ _ c.args.known.now _ _ c.loop-place.place _ c.as_str-name.result.now c.in-Err.cause inv.files inv.count (omega arith) at inv.read c.in-Err.ensures.refused
 
 pub returns-in-Err-clause-asked : goal.returns-in-Err-clause-asked
 returns-in-Err-clause-asked g c =

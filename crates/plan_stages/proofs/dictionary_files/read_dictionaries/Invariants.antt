@@ -2,6 +2,7 @@ use Rattle.std.proofs.Common.{◌≡◌, ◌≤◌, ◌++◌, List, ℕ, length,
 use Rattle.std.specs.Prelude.{IfSome}
 use Rattle.std.specs.Option.{option_map}
 use Rattle.pd_outside.specs.Faults.{Unfailed}
+use Rattle.plan_stages.specs.DictionaryFiles.{names_of}
 use Rattle.plan_stages.specs.Limits.{dictionary_limit}
 use Rattle.plan_stages.specs.Stages.{told_files, IsReadOut}
 use Rattle.plan_stages.proofs.DictionaryLemmas.{AreReadable, IsReadSoFar}
@@ -10,7 +11,8 @@ use Rattle.plan_stages.proofs.dictionary_files.read_dictionaries.Given as goal
 abbrev pub invariant-loop-place : goal.invariant-loop-place
 invariant-loop-place g l = record {
   count : length l.dictionaries ≡ l.place;
-  read : IfSome (told_files (g.L.Library.content l.fn.library)) (IsReadSoFar l.names l.dictionaries l.place);
+  read : IfSome (told_files (g.L.Library.content l.fn.library)) (IsReadSoFar l.known l.names l.dictionaries l.place);
+  named : names_of l.dictionaries ≡ take l.place l.names;
   readable : IfSome (told_files (g.L.Library.content l.fn.library)) (AreReadable l.names l.place);
   asked : g.L.Library.asked l.library ≡ option_map (λ (names : List (List ℕ)). names ++ take l.place l.names) (g.L.Library.asked l.fn.library);
   files : told_files (g.L.Library.content l.library) ≡ told_files (g.L.Library.content l.fn.library);

@@ -12,6 +12,6 @@ returns-clause-can g c = record {
   some_worker = c.requires.ranges.some_worker;
   worker_limit = c.requires.ranges.worker_limit;
   named =
-      named-alike c.args.request.now.out (λ directory content. in_directory directory (detail_name c.detail-2.result.now c.args.request.now.unit content)) c.args.told _ _ c.in_ok-names.ensures c.in_ok-changes.ensures.told;
+      named-alike c.args.request.now.out (λ directory content. in_directory directory (detail_name c.detail.result.now c.args.request.now.unit content)) c.args.told _ _ c.in_ok-names.ensures c.in_ok-changes.ensures.told;
   found = c.in_ok-changes.ensures.found;
 }

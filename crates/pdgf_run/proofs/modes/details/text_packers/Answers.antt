@@ -7,9 +7,9 @@ use Rattle.pdgf_run.proofs.modes.details.text_packers.Goals as goal
 pub push_lines-requires-clause-few : goal.push_lines-requires-clause-few
 push_lines-requires-clause-few c =
     let job = c.args.job.now in
-    omega (arith, ap (sum_by count_of) c.new-packers.ensures, born-few job.plan c.schema-limits.ensures.limits job.detail c.requires.can.keeps job.unit c.requires.can.unit)
+    omega (arith, ap (sum_by count_of) c.new-packers.ensures, born-few job.plan c.schema-limits.ensures.limits job.kept c.requires.can.keeps job.unit c.requires.can.unit)
 
 pub returns : goal.returns
 returns c =
     let job = c.args.job.now in
-    text-told job.plan c.schema-limits.ensures.limits job.detail c.requires.can.keeps job.unit c.requires.can.unit _ _ c.new-packers.ensures c.in_ok-push_lines.ensures.texts
+    text-told job.plan c.schema-limits.ensures.limits job.kept c.requires.can.keeps job.unit c.requires.can.unit _ _ c.new-packers.ensures c.in_ok-push_lines.ensures.texts
