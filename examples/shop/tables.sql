@@ -13,6 +13,7 @@ CREATE TABLE "orders" (
     "city" text NOT NULL,
     "placed" date NOT NULL,
     "remark" text,
+    UNIQUE ("id", "placed"),
     FOREIGN KEY ("customer") REFERENCES "customer" ("id") ON DELETE CASCADE,
     FOREIGN KEY ("customer", "city") REFERENCES "customer" ("id", "city") ON DELETE CASCADE
 );
@@ -30,10 +31,15 @@ CREATE TABLE "card" (
 CREATE TABLE "order_line" (
     "orders" bigint NOT NULL,
     "number" bigint NOT NULL,
-    "product" bigint NOT NULL,
+    "product" text NOT NULL,
     "quantity" bigint NOT NULL,
-    "cents" bigint NOT NULL,
+    "price" numeric(5, 2) NOT NULL,
+    "total" numeric(6, 2) NOT NULL,
+    "placed" date NOT NULL,
+    "sent" date NOT NULL,
+    "received" date,
     "state" text NOT NULL,
     PRIMARY KEY ("orders", "number"),
-    FOREIGN KEY ("orders") REFERENCES "orders" ("id") ON DELETE CASCADE
+    FOREIGN KEY ("orders") REFERENCES "orders" ("id") ON DELETE CASCADE,
+    FOREIGN KEY ("orders", "placed") REFERENCES "orders" ("id", "placed") ON DELETE CASCADE
 );

@@ -1,4 +1,4 @@
--- The tables of tpc.toml for PostgreSQL, as `examples/load/ddl examples/tpc/tpc.toml` makes them.
+-- The tables of tpc.toml and order_line.toml for PostgreSQL, as `examples/load/ddl tpc.toml order_line.toml` makes them.
 CREATE TABLE "region" (
     "id" bigint PRIMARY KEY,
     "name" text NOT NULL
@@ -60,6 +60,7 @@ CREATE TABLE "orders" (
     "placed" date NOT NULL,
     "urgency" bigint NOT NULL,
     "remark" text,
+    UNIQUE ("id", "placed"),
     FOREIGN KEY ("customer") REFERENCES "customer" ("id") ON DELETE CASCADE
 );
 CREATE INDEX ON "orders" ("customer");
@@ -82,3 +83,26 @@ CREATE TABLE "lineitem" (
 );
 CREATE INDEX ON "lineitem" ("order_id");
 CREATE INDEX ON "lineitem" ("offer");
+
+CREATE TABLE "order_line" (
+    "orders" bigint NOT NULL,
+    "number" bigint NOT NULL,
+    "quantity" bigint NOT NULL,
+    "price" numeric(6, 2) NOT NULL,
+    "goods" numeric(8, 2) NOT NULL,
+    "discount" numeric(3, 2) NOT NULL,
+    "tax" numeric(3, 2) NOT NULL,
+    "rebate" numeric(9, 4) NOT NULL,
+    "duty" numeric(9, 4) NOT NULL,
+    "total" numeric(10, 4) NOT NULL,
+    "placed" date NOT NULL,
+    "promised" date NOT NULL,
+    "sent" date NOT NULL,
+    "received" date,
+    "returned" text NOT NULL,
+    "packing" text NOT NULL,
+    "remark" text,
+    PRIMARY KEY ("orders", "number"),
+    FOREIGN KEY ("orders") REFERENCES "orders" ("id") ON DELETE CASCADE,
+    FOREIGN KEY ("orders", "placed") REFERENCES "orders" ("id", "placed") ON DELETE CASCADE
+);

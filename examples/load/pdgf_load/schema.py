@@ -38,7 +38,7 @@ class Reference:
     column: str
     parent: str
     on_delete: str  # CASCADE or SET NULL
-    lookups: tuple  # pairs: the column that shows, and the column of the parent that is shown
+    lookups: tuple  # pairs: the column that shows, a lookup or a `parent`, and the column of the parent that is shown
 
 
 @dataclasses.dataclass(frozen=True)
@@ -116,13 +116,15 @@ def read_details(path, schema):
     """The detail table of a file. Its key has no names there: the first column gets the parent's, the second `number`."""
     text = read_toml(path)
     try:
-        parent = schema.table(text["parent"])
-        columns = [Column(it["name"], type_of(it), False) for it in text["column"]]
-        for name in ("number", parent.name):
+        columns = []
+        for column in text["column"]:
+            columns.append(read_column(column, text, columns, schema.tables))
+        for name in ("number", schema.table(text["parent"]).name):
             while name in [it.name for it in columns]:
                 name += "_"
             columns.insert(0, Column(name, whole_of(0, 2**63), False))
-        return Table(text["name"], tuple(columns), (Reference(columns[0].name, parent.name, "CASCADE", ()),), is_detail=True)
+        shown = tuple((it["name"], it["column"]) for it in text["column"] if it["kind"] == "parent")
+        return Table(text["name"], tuple(columns), (Reference(columns[0].name, text["parent"], "CASCADE", shown),), is_detail=True)
     except WRONG as error:
         raise Unreadable(f"{path} declares no detail table, as `pdgf details` will tell: {error!r}") from None
 
@@ -160,9 +162,8 @@ def read_column(column, table, before, earlier):
         case "case":
             type_ = functools.reduce(common_type, [type_of(branch) for branch in column["branches"]])
             may_be_null = may_be_null or named[column["on"]].may_be_null
-        case "lookup":
-            via = next(it for it in table["column"] if it["name"] == column["via"])
-            shown = next(it for it in earlier if it.name == via["table"]).column(column["column"])
+        case "lookup" | "parent":
+            shown = next(it for it in earlier if it.name == parent_of(column, table)).column(column["column"])
             type_ = shown.type
             may_be_null = may_be_null or shown.may_be_null
         case "after":
@@ -178,6 +179,13 @@ def read_column(column, table, before, earlier):
         case _:
             type_ = type_of(column)
     return Column(column["name"], type_, may_be_null)
+
+
+def parent_of(column, table):
+    """The name of the table whose column a lookup shows, or a `parent` of a detail table."""
+    if column["kind"] == "parent":
+        return table["parent"]
+    return next(it for it in table["column"] if it["name"] == column["via"])["table"]
 
 
 def size_of_part(part, named):
