@@ -1,0 +1,1 @@
+"""What `examples/report` is made of."""
