@@ -56,7 +56,7 @@ def diagram(schema, declared, histories):
         viewBox=f"0 0 {width:.0f} {height:.0f}",
         width=f"{width:.0f}",
         height=f"{height:.0f}",
-        role="img",
+        role="group",
         aria_label="The tables, their columns and their references",
     )
 
