@@ -1,5 +1,6 @@
 -- A field of several items, by what is drawn of it before these.
 use Rattle.std.proofs.Common.{◌≡◌, ℕ, Bool, true, false, List, if◌then◌else◌, get_or, Option, None, Some, ap, sym, ◌∙◌, refl}
+use Rattle.std.specs.Prelude.{IfSome}
 use Rattle.philox_seeds.specs.SeedTree.{column_seed, draw, row_seed, table_seed, unit_seed}
 use Rattle.row_text.specs.Fields.{field_text}
 use Rattle.schema_plan.specs.declared.ready.ReadyColumn.{ReadyColumn}
@@ -92,3 +93,23 @@ itemized_text plan run column drawn at of kept is kind_is itemized =
     ∙ held_items (is_null column.null draws) drawn draws (item_count drawn (draws 1)) (ready_text drawn draws) (ready_text-items drawn draws itemized)
     ∙ ap (λ (held : ReadyKind). or_null (unless_null column.null draws (ready_value at entry draws held))) (sym kind_is)
     ∙ sym (field_text-kept (layout_of plan).delimiter (value_at (layout_of plan) run.table run.column at) _ field)
+
+-- ---- a column by itself
+
+-- one of several items is drawn
+pub itemized_leaf : (held : ReadyKind) → is_itemized held ≡ true → (drawn : ReadyLeaf) × (held ≡ kind.Drawn drawn)
+itemized_leaf (kind.Drawn drawn) itemized = (drawn, refl)
+itemized_leaf _ itemized = absurd (cc)
+
+-- what is drawn before the items, by the ready column
+pub itemized_field-by : (plan : Project) (run : RunColumnOf) (column : ReadyColumn) (at : RowAt) → column ≡ ready_at plan run.table run.column →
+    itemized_field plan run at ≡ itemized_by column (itemized_field plan run at).seed
+itemized_field-by plan run column at is = ap (λ (found : ReadyColumn). itemized_by found (itemized_field plan run at).seed) (sym is)
+
+-- so many items as a draw gives, where the field isn't null
+pub counted : (column : ReadyColumn) (seed : ℕ) → IfSome (itemized_by column seed).count (λ count. (number : ℕ) × (count ≡ kind_count column.kind number))
+counted column seed = by_null (is_null column.null (draw seed))
+  where
+    by_null : (null : Bool) → IfSome (if null then None else Some (kind_count column.kind (draw seed 1))) (λ count. (number : ℕ) × (count ≡ kind_count column.kind number))
+    by_null true = tt
+    by_null false = (draw seed 1, refl)

@@ -1,5 +1,5 @@
 -- The fields of a column over a run of rows, by what a plan keeps ready for the column.
-use Rattle.std.proofs.Common.{◌≡◌, ◌<◌, ◌≤◌, ◌^◌, ◌%◌, ◌+ℤ◌, pos, ℕ, ℤ, Bool, true, false, zero, suc, max, List, [], ◌∷◌, if◌then◌else◌, get_or, length, map, option_map, Option, None, Some, refl, ap, sym, ◌∙◌, length-append, arith}
+use Rattle.std.proofs.Common.{◌≡◌, ◌<◌, ◌≤◌, ◌^◌, ◌%◌, ◌+ℤ◌, pos, ℕ, ℤ, Bool, true, false, zero, suc, max, List, [], ◌∷◌, if◌then◌else◌, get_or, length, map, option_map, Option, None, Some, refl, ap, sym, ◌∙◌, arith}
 use Rattle.std.specs.Prelude.{codes, unwrap_or}
 use Rattle.std.specs.List.{fold, range_with_len}
 use Rattle.std.proofs.lemmas.Bool.{le-ltb}
@@ -210,17 +210,16 @@ unless_null_size true value size fits = omega arith
 unless_null_size false value size fits = fits
 
 -- a field of a short column is no longer than the greatest size of its fields
-pub run_text_size : (plan : Project) (run : RunColumnOf) (column : ReadyColumn) (rows : RunRows) (i : ℕ) (before : List Piece) → IsRunColumn plan run →
+pub run_text_size : (plan : Project) (run : RunColumnOf) (column : ReadyColumn) (rows : RunRows) (i : ℕ) → IsRunColumn plan run →
     IsKeptField (layout_of plan) run.table run.column run.column column column → column ≡ ready_at plan run.table run.column → is_short_alone column.kind ≡ true →
-    (run_row rows i).born ≤ 10000 → (run_row rows i).changed ≤ 10000 → get_or (map piece_text before) i [] ≡ with_behind run.behind (short_value run.seed column.changes column.kind rows i) →
+    (run_row rows i).born ≤ 10000 → (run_row rows i).changed ≤ 10000 → length (short_value run.seed column.changes column.kind rows i) ≤ 15 →
     length (field_text (layout_of plan).delimiter (value_at (layout_of plan) run.table run.column (run_row rows i))) ≤ size_at (layout_of plan) run.table run.column
-run_text_size plan run column rows i before of kept is short born changed before_is =
+run_text_size plan run column rows i of kept is short born changed few =
     let draws : Draws = draw (run_seed run.seed column.changes rows i) in
     let drawn = run_draws plan run column rows i of is in
     let value : List ℕ = short_value run.seed column.changes column.kind rows i in
     let entry : Option ℕ = ready_held_entry column draws in
     let field = value_at-kept (layout_of plan) run.table run.column run.column column column kept (run_row rows i) (run_row rows i) draws draws refl drawn drawn in
-    let few : length value ≤ 15 = omega (arith, ap (length {A = ℕ}) before_is, length-append value (run.behind ∷ []), text-short before i) in
     let size : length value ≤ ready_kind_size column.kind = short_value_size run.seed column.changes column.kind rows i short born changed few in
     let held : unless_null column.null draws (ready_value (run_row rows i) entry draws column.kind) ≡ unless_null column.null draws (Some value) =
     ap (unless_null column.null draws) (short_value-ready run.seed column.changes column.kind rows i entry short) in

@@ -55,6 +55,11 @@ abbrev pub items_or_null : ReadyLeaf → Draws → Option ℕ → List ℕ
 items_or_null drawn draw None = codes "\\N"
 items_or_null drawn draw (Some count) = item_texts drawn draw 0 count
 
+-- the same of what a column holds
+abbrev pub kind_items : ReadyKind → Draws → Option ℕ → List ℕ
+kind_items (kind.Drawn drawn) draw count = items_or_null drawn draw count
+kind_items _ draw count = []
+
 -- what is drawn of a field with the seed of its row before the items: how many they are, None where the field is null
 abbrev pub itemized_by : ReadyColumn → ℕ → ItemizedField
 itemized_by column seed =

@@ -108,6 +108,10 @@ choices_kept _ = []
 abbrev pub with_behind : ℕ → List ℕ → List ℕ
 with_behind behind text = text ++ behind ∷ []
 
+-- a null field with a byte behind it
+abbrev pub null_behind : ℕ → List ℕ
+null_behind behind = with_behind behind (codes "\\N")
+
 -- what is kept of a drawn value, and of a column: such texts with the byte behind them, where all are short, or the items of several;
 -- of a list what is kept of one of its words
 abbrev pub leaf_texts : ℕ → ReadyLeaf → List (List ℕ)
@@ -135,6 +139,29 @@ pub record RunColumnOf : Type 0 where
   pub short : Bool
   pub itemized : Bool
   pub texts : List (List ℕ)
+
+-- a column that is prepared for runs by itself: its seed, the byte behind its fields, whether each is known to be short, whether each has
+-- several short items, and the texts that are kept of it
+pub record DrawnColumnOf : Type 0 where
+  pub seed : ℕ
+  pub behind : ℕ
+  pub short : Bool
+  pub itemized : Bool
+  pub texts : List (List ℕ)
+
+-- a column of some kind prepared, with a seed and a byte behind its fields
+abbrev pub drawn_column : ReadyKind → ℕ → ℕ → DrawnColumnOf
+drawn_column held seed behind = record {
+  seed = seed;
+  behind = behind;
+  short = is_short held;
+  itemized = is_itemized held;
+  texts = kept_texts behind held;
+}
+
+-- what is prepared of a column of a table by itself
+abbrev pub drawn_of : RunColumnOf → DrawnColumnOf
+drawn_of run = record { seed = run.seed; behind = run.behind; short = run.short; itemized = run.itemized; texts = run.texts }
 
 -- the column at a place of a table of a plan, as it is kept ready
 abbrev pub ready_at : Project → ℕ → ℕ → ReadyColumn
@@ -177,6 +204,13 @@ short_value seed changes (kind.List list) rows i = ready_entry_in_turn list (run
 short_value seed changes (kind.UnitDate date) rows i = date_text (ready_day date (run_row rows i))
 short_value seed changes _ rows i = []
 
+-- what is written for the field of the row at a place of a run in such a column, with the byte behind it
+abbrev pub drawn_field : DrawnColumnOf → ReadyColumn → RunRows → ℕ → List ℕ
+drawn_field column ready rows i =
+    if is_null ready.null (draw (run_seed column.seed ready.changes rows i))
+    then null_behind column.behind
+    else with_behind column.behind (short_value column.seed ready.changes ready.kind rows i)
+
 -- the numbers of what is drawn, or taken in turn, are within their limits
 abbrev pub IsReadyDrawn : ReadyKind → Type 0
 IsReadyDrawn (kind.Drawn drawn) = IsReady drawn
@@ -208,7 +242,7 @@ number_in plan run at =
 
 -- a null field with the byte behind it
 abbrev pub null_text : RunColumnOf → List ℕ
-null_text run = with_behind run.behind (codes "\\N")
+null_text run = null_behind run.behind
 
 -- so many columns of the table at a place of a plan are prepared, each with its seed
 pub record AreColumnsOf (plan : Project) (table : ℕ) (columns : List RunColumnOf) : Type 0 where

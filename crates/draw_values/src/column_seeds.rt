@@ -44,6 +44,19 @@ impl ColumnSeeds {
         ensures { IfOk result (λ seeds. seeds ≡ column_seed_of (table_seed_of (layout_of plan.now).seed table) column) }
     {
         let column_seed = column_seed(table_seed(plan.seed(), table), column);
+        ColumnSeeds::below(alloc, column_seed, last, room)
+    }
+
+    /// Returns the seeds of a column, from the column's own. The seeds of the units 0 to `last` are kept, but at most `room` of them.
+    /// Makes none at `Memory`.
+    pub fn below(
+        alloc: Global,
+        column_seed: u64,
+        last: u64,
+        room: u64,
+    ) -> Result<ColumnSeeds, Memory>
+        ensures { IfOk result (λ seeds. seeds ≡ column_seed) }
+    {
         let count = if last < room { last + 1 } else { room };
         let kept = unit_seeds(alloc, column_seed, count)?;
         Ok(ColumnSeeds { column_seed, kept })

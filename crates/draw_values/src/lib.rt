@@ -5,7 +5,8 @@
 //! A table is named by its place in the schema, a column by its place in the table. A row is named by its ordinal, its place in the
 //! order of birth in its table. All count from 0. A value is appended to a page as it is written (PostgreSQL's manual, "COPY", text
 //! format). A run is up to 256 rows of a table. A column makes the fields of a run at once, as pieces, each with the byte after the
-//! field. It also gives the days and the numbers of a run. Only `ColumnSeeds::new` and `RunColumn::new` take memory.
+//! field. It also gives the days and the numbers of a run. Only `ColumnSeeds::new`,
+//! `DrawnColumn::new` and `RunColumn::new` take memory.
 #![tactic(auto)]
 
 mod characters;
@@ -13,6 +14,7 @@ mod cohort_values;
 mod column_seeds;
 mod dates;
 mod digits;
+mod drawn_column;
 mod fields;
 mod fixed;
 mod items;
@@ -37,6 +39,7 @@ mod words;
 pub use cohort_values::CohortValues;
 pub use column_seeds::ColumnSeeds;
 pub use dates::{day_piece, put_date};
+pub use drawn_column::DrawnColumn;
 pub use fields::is_null;
 pub use fixed::put_number;
 pub use items::ItemizedField;

@@ -48,7 +48,7 @@ impl RunColumn {
         let branches = branches.as_slice();
         self.fill_branches(digits, own, branches, pick, chooser, rows, numbers, pieces);
         self.null_picks(pick, chooser, rows, numbers, pieces);
-        self.null_ready(own, rows, numbers, pieces);
+        self.drawn.null_out(own, rows, numbers, pieces);
     }
 
     /// Makes the values of the branches that the rows' fields in the pick column select, also for null fields.
@@ -83,8 +83,9 @@ impl RunColumn {
         let entries = &mut all_entries[..count];
         put_run_seeds(chooser, pick.changes, rows, seeds);
         put_entries(pick, seeds, entries);
-        self.put_run_draws(FIRST_DRAW, own.changes, rows, seeds, draws);
-        put_branches(digits, branches, entries, draws, self.behind, pieces);
+        self.drawn
+            .put_run_draws(FIRST_DRAW, own.changes, rows, seeds, draws);
+        put_branches(digits, branches, entries, draws, self.drawn.behind, pieces);
     }
 
     /// Replaces a row's piece with a null and the byte after it, if the row's field in the pick column is null. Leaves the other
@@ -112,7 +113,12 @@ impl RunColumn {
         let draws = &mut all_draws[..count];
         put_run_seeds(chooser, pick.changes, rows, seeds);
         put_draws(NULL_DRAW, seeds, draws);
-        put_nulls(pick.null, draws, text_piece(b"\\N", self.behind), pieces);
+        put_nulls(
+            pick.null,
+            draws,
+            text_piece(b"\\N", self.drawn.behind),
+            pieces,
+        );
     }
 }
 

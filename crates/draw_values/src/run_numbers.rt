@@ -16,6 +16,7 @@ ghost use Rattle.draw_values.specs.Runs.{AreOfLength, AreRunRows, HaveDays, IsRe
 ghost use Rattle.draw_values.specs.Values.{Draws, chosen as chosen_of, chosen_group, draws_at, number_text};
 
 use crate::dates::day_piece;
+use crate::drawn_column::DrawnColumn;
 use crate::fixed::fixed_piece;
 use crate::leaves::FIRST_DRAW;
 use crate::numbers::chosen;
@@ -46,12 +47,57 @@ impl RunColumn {
         ensures none { result ≡ false → (at : RowAt) → day_in plan.now self.now at ≡ None }
     {
         let columns = plan.columns(self.table);
-        self.put_own_days(&columns[self.column as usize], rows, numbers, days)
+        let own = &columns[self.column as usize];
+        self.drawn.put_days(own, rows, numbers, days)
     }
 
-    /// Finds the days that a run's rows show in a ready column, as `put_days` does.
-    #[inline(always)]
-    fn put_own_days(
+    /// Finds the numbers that are drawn for a run's rows in the column. The column can be of any kind. Returns how many of their
+    /// digits stand after the point. Returns None if no numbers are drawn. A null field's number is the one that it would hold.
+    pub fn put_numbers(
+        &self,
+        plan: &Plan,
+        rows: RunRows<'_>,
+        numbers: &mut RunNumbers,
+        values: &mut [i64],
+    ) -> Option<u32>
+        requires column { IsRunColumn plan.now self.now }
+        requires rows { AreRunRows (layout_of plan.now).units (length values.old) rows }
+        ensures exact { IfSome result (λ decimals. (i : ℕ) → i < length values.old → number_in plan.now self.now (run_row rows.entry i) ≡ Some (record { value = slice_index_or values.new i (pos 0); decimals = decimals })) }
+        ensures within { IfSome result (λ decimals. (i : ℕ) → i < length values.old → IsNumberOf (field_facts (layout_of plan.now) self.now.table self.now.column).numbers (record { value = slice_index_or values.new i (pos 0); decimals = decimals })) }
+        ensures none { result ≡ None → (at : RowAt) → number_in plan.now self.now at ≡ None }
+    {
+        let columns = plan.columns(self.table);
+        let own = &columns[self.column as usize];
+        self.drawn.put_numbers(own, rows, numbers, values)
+    }
+
+    /// Finds by how many days a run's dates in the column follow other ones, as they are drawn.
+    pub fn put_days_after(
+        &self,
+        plan: &Plan,
+        after: &ReadyAfter,
+        rows: RunRows<'_>,
+        numbers: &mut RunNumbers,
+        days: &mut [i64],
+    )
+        requires column { IsRunColumn plan.now self.now }
+        requires rows { AreRunRows (layout_of plan.now).units (length days.old) rows }
+        requires range { IsAfterRange after.now.lo after.now.hi }
+        requires choices { after.now.choices ≡ choices_of after.now.lo after.now.hi 1 }
+        ensures exact { (i : ℕ) → i < length days.old → slice_index_or days.new i (pos 0) ≡ chosen_of after.now.lo after.now.hi 1 (draws_at (layout_of plan.now) self.now.table (run_row rows.entry i) self.now.column 1) }
+        ensures range { (i : ℕ) → i < length days.old → IsBetween after.now.lo after.now.hi (slice_index_or days.new i (pos 0)) }
+    {
+        let columns = plan.columns(self.table);
+        let own = &columns[self.column as usize];
+        self.drawn
+            .put_days_after(own.changes, after, rows, numbers, days);
+    }
+}
+
+impl DrawnColumn {
+    /// Finds the days that a run's rows show in the column by their units or their own draws. The column can be of any kind.
+    /// Returns false if its rows show no such days. A null field's day is the one that it would show.
+    pub fn put_days(
         &self,
         own: &ReadyColumn,
         rows: RunRows<'_>,
@@ -105,25 +151,6 @@ impl RunColumn {
     /// Finds the numbers that are drawn for a run's rows in the column. The column can be of any kind. Returns how many of their
     /// digits stand after the point. Returns None if no numbers are drawn. A null field's number is the one that it would hold.
     pub fn put_numbers(
-        &self,
-        plan: &Plan,
-        rows: RunRows<'_>,
-        numbers: &mut RunNumbers,
-        values: &mut [i64],
-    ) -> Option<u32>
-        requires column { IsRunColumn plan.now self.now }
-        requires rows { AreRunRows (layout_of plan.now).units (length values.old) rows }
-        ensures exact { IfSome result (λ decimals. (i : ℕ) → i < length values.old → number_in plan.now self.now (run_row rows.entry i) ≡ Some (record { value = slice_index_or values.new i (pos 0); decimals = decimals })) }
-        ensures within { IfSome result (λ decimals. (i : ℕ) → i < length values.old → IsNumberOf (field_facts (layout_of plan.now) self.now.table self.now.column).numbers (record { value = slice_index_or values.new i (pos 0); decimals = decimals })) }
-        ensures none { result ≡ None → (at : RowAt) → number_in plan.now self.now at ≡ None }
-    {
-        let columns = plan.columns(self.table);
-        self.put_own_numbers(&columns[self.column as usize], rows, numbers, values)
-    }
-
-    /// Finds the numbers that are drawn for a run's rows in a ready column, as `put_numbers` does.
-    #[inline(always)]
-    fn put_own_numbers(
         &self,
         own: &ReadyColumn,
         rows: RunRows<'_>,
@@ -189,35 +216,25 @@ impl RunColumn {
         }
     }
 
-    /// Finds by how many days a run's dates in the column follow other ones, as they are drawn.
+    /// Finds by how many days a run's dates in the column follow other ones, as they are drawn. `changes` tells if the fields are drawn anew
+    /// when a row changes.
     pub fn put_days_after(
         &self,
-        plan: &Plan,
+        changes: bool,
         after: &ReadyAfter,
         rows: RunRows<'_>,
         numbers: &mut RunNumbers,
         days: &mut [i64],
     )
-        requires column { IsRunColumn plan.now self.now }
-        requires rows { AreRunRows (layout_of plan.now).units (length days.old) rows }
+        requires few { length days.old ≤ 256 }
+        requires lengths { AreOfLength (length days.old) rows }
         requires range { IsAfterRange after.now.lo after.now.hi }
         requires choices { after.now.choices ≡ choices_of after.now.lo after.now.hi 1 }
-        ensures exact { (i : ℕ) → i < length days.old → slice_index_or days.new i (pos 0) ≡ chosen_of after.now.lo after.now.hi 1 (draws_at (layout_of plan.now) self.now.table (run_row rows.entry i) self.now.column 1) }
+        ensures exact { (i : ℕ) → i < length days.old → slice_index_or days.new i (pos 0) ≡ chosen_of after.now.lo after.now.hi 1 (draw_of (run_seed self.now.seed changes rows.entry i) 1) }
         ensures range { (i : ℕ) → i < length days.old → IsBetween after.now.lo after.now.hi (slice_index_or days.new i (pos 0)) }
     {
-        let columns = plan.columns(self.table);
-        let own = &columns[self.column as usize];
         let choices = &after.choices;
-        self.put_chosen(
-            own.changes,
-            after.lo,
-            after.hi,
-            1,
-            choices,
-            rows,
-            numbers,
-            days,
-        );
+        self.put_chosen(changes, after.lo, after.hi, 1, choices, rows, numbers, days);
     }
 
     /// Finds the numbers from `lo` to `hi` in steps of `step` that the first draws of a run's rows choose. `choices` is how many

@@ -11,13 +11,13 @@ use Rattle.schema_plan.specs.Limits.{IsTableInLimits}
 use Rattle.schema_plan.specs.Ready.{ready_columns}
 use Rattle.draw_values.specs.Cases.{case_text}
 use Rattle.draw_values.specs.ReadyValues.{IsReadyKind}
-use Rattle.draw_values.specs.Runs.{RunColumnOf, chooser_seed, is_short, null_text, ready_at, run_seed}
+use Rattle.draw_values.specs.Runs.{DrawnColumnOf, RunColumnOf, chooser_seed, drawn_of, is_short, null_behind, null_text, ready_at, run_seed}
 use Rattle.draw_values.specs.Values.{is_null}
 use Rattle.draw_values.proofs.CaseLemmas.{IsCaseAt, kept_case, run_field-case, run_size-case}
 use Rattle.draw_values.proofs.FieldLemmas.{IsKeptField, field_is_ready}
 use Rattle.draw_values.proofs.RunLemmas.{own_ready}
 use Rattle.draw_values.proofs.run_column.RunColumn.fill_cases.Goals as goal
-use Rattle.draw_values.proofs.run_column.RunColumn.fill_cases.Goals.{After-as_slice-branches, After-null_ready}
+use Rattle.draw_values.proofs.run_column.RunColumn.fill_cases.Goals.{After-as_slice-branches, After-null_out}
 
 -- ---- the columns
 
@@ -79,8 +79,8 @@ fill_branches-requires-clause-pick c = (ready (goal.at.fill_branches-requires-cl
 pub fill_branches-requires-clause-each : goal.fill_branches-requires-clause-each
 fill_branches-requires-clause-each c = (ready (goal.at.fill_branches-requires-clause-each c).After-as_slice-branches).2
 
-put : (c : After-null_ready) (i : ℕ) → i < length c.args.pieces.now →
-    get_or (map piece_text c.null_ready.new.pieces) i []
+put : (c : After-null_out) (i : ℕ) → i < length c.args.pieces.now →
+    get_or (map piece_text c.null_out.new.pieces) i []
     ≡ case_text c.args.self.now c.index-columns-self.result c.index-columns-on.result c.as_slice-branches.result.now (draw (run_seed c.args.self.now.seed c.index-columns-self.result.changes c.args.rows i))
     (draw (run_seed c.in-Case-Some.chooser c.index-columns-on.result.changes c.args.rows i))
 put c i within =
@@ -88,7 +88,9 @@ put c i within =
     let pick : ReadyColumn = c.index-columns-on.result in
     let own_null = is_null own.null (draw (run_seed c.args.self.now.seed own.changes c.args.rows i)) in
     let pick_null = is_null pick.null (draw (run_seed c.in-Case-Some.chooser pick.changes c.args.rows i)) in
-    c.null_ready.ensures i (omega (arith, within, c.fill_branches.auto.pieces, c.null_picks.auto.pieces))
+    subst (λ (column : DrawnColumnOf). get_or (map piece_text c.null_out.new.pieces) i []
+    ≡ (if is_null own.null (draw (run_seed column.seed own.changes c.args.rows i)) then null_behind column.behind else get_or (map piece_text c.null_picks.new.pieces) i []))
+    (ap drawn_of c.self.view_is) (c.null_out.ensures i (omega (arith, within, c.fill_branches.auto.pieces, c.null_picks.auto.pieces)))
     ∙ ap (λ (text : List ℕ). if own_null then null_text c.args.self.now else text)
     (c.null_picks.ensures i (omega (arith, within, c.fill_branches.auto.pieces))
     ∙ ap (λ (text : List ℕ). if pick_null then null_text c.args.self.now else text) (c.fill_branches.ensures.text i within))
@@ -96,12 +98,12 @@ put c i within =
 pub returns-clause-text : goal.returns-clause-text
 returns-clause-text c = λ i within.
     let at = goal.at.returns-clause-text c in
-    put at.After-null_ready i within
+    put at.After-null_out i within
     ∙ run_field-case c.args.plan.now c.args.self.now c.index-columns-self.result c.index-columns-on.result c.in-Case-Some.on c.as_slice-branches.result.now c.in-Case-Some.chooser c.args.rows i
     (known at.After-as_slice-branches) (c.fill_branches.ensures.within i within)
 
 pub returns-clause-size : goal.returns-clause-size
 returns-clause-size c = λ i within.
     let at = goal.at.returns-clause-size c in
-    run_size-case c.args.plan.now c.args.self.now c.index-columns-self.result c.index-columns-on.result c.in-Case-Some.on c.as_slice-branches.result.now c.in-Case-Some.chooser c.args.rows i c.null_ready.new.pieces
-    (known at.After-as_slice-branches) (c.fill_branches.ensures.within i within) (put at.After-null_ready i within)
+    run_size-case c.args.plan.now c.args.self.now c.index-columns-self.result c.index-columns-on.result c.in-Case-Some.on c.as_slice-branches.result.now c.in-Case-Some.chooser c.args.rows i c.null_out.new.pieces
+    (known at.After-as_slice-branches) (c.fill_branches.ensures.within i within) (put at.After-null_out i within)

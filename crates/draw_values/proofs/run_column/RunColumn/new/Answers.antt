@@ -13,10 +13,10 @@ own_is c =
     ready_column-at (layout_of c.args.plan.now).delimiter (table_at (layout_of c.args.plan.now).tables c.args.table).columns c.columns-columns.result.now c.args.column c.index-columns-column.result
     c.columns-columns.ensures.columns c.requires.column c.index-columns-column.is
 
-pub kept_pieces-requires : goal.kept_pieces-requires
-kept_pieces-requires c =
+pub new-requires : goal.new-requires
+new-requires c =
     let columns = (table_at (layout_of c.args.plan.now).tables c.args.table).columns in
-    subst (λ (found : ReadyColumn). IsReadyDrawn found.kind) (sym (own_is (goal.at.kept_pieces-requires c).After-index-columns-column))
+    subst (λ (found : ReadyColumn). IsReadyDrawn found.kind) (sym (own_is (goal.at.new-requires c).After-index-columns-column))
     (drawn_is_ready (layout_of c.args.plan.now).delimiter columns c.args.column (column_at columns c.args.column).kind (c.columns-columns.ensures.limits.kinds c.args.column c.requires.column))
 
 pub chooser_seeds-requires : goal.chooser_seeds-requires

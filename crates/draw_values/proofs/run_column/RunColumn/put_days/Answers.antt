@@ -1,8 +1,10 @@
-use Rattle.std.proofs.Common.{◌≡◌, ℕ, pos, get_or, ap, subst, sym, ◌∙◌}
+use Rattle.std.proofs.Common.{◌≡◌, ℕ, Some, pos, get_or, ap, subst, sym, ◌∙◌}
+use Rattle.philox_seeds.specs.SeedTree.{draw}
 use Rattle.schema_plan.specs.declared.ready.ReadyColumn.{ReadyColumn}
 use Rattle.schema_plan.specs.Layout.{column_at, layout_of, table_at}
 use Rattle.schema_plan.specs.Limits.{IsTableInLimits}
-use Rattle.draw_values.specs.Runs.{IsReadyDrawn, RunColumnOf, ready_at, run_row}
+use Rattle.draw_values.specs.ReadyValues.{ready_own_day}
+use Rattle.draw_values.specs.Runs.{IsReadyDrawn, RunColumnOf, ready_at, run_row, run_seed}
 use Rattle.draw_values.proofs.FieldLemmas.{column_has_day}
 use Rattle.draw_values.proofs.RunLemmas.{drawn_is_ready, own_ready}
 use Rattle.draw_values.proofs.RunNumberLemmas.{day-within, no_day, run_day}
@@ -21,27 +23,28 @@ limits : (c : After-index-columns-self) → IsTableInLimits (layout_of c.args.pl
 limits c =
     subst (λ (table : ℕ). IsTableInLimits (layout_of c.args.plan.now).units (table_at (layout_of c.args.plan.now).tables table)) (table_is c) c.columns-columns.ensures.limits
 
-pub put_own_days-requires-clause-ready : goal.put_own_days-requires-clause-ready
-put_own_days-requires-clause-ready c =
-    let at : After-index-columns-self = (goal.at.put_own_days-requires-clause-ready c).After-index-columns-self in
+pub put_days-requires-clause-ready : goal.put_days-requires-clause-ready
+put_days-requires-clause-ready c =
+    let at : After-index-columns-self = (goal.at.put_days-requires-clause-ready c).After-index-columns-self in
     let columns = (table_at (layout_of c.args.plan.now).tables c.args.self.now.table).columns in
     subst (λ (found : ReadyColumn). IsReadyDrawn found.kind) (sym (own_is at))
     (drawn_is_ready (layout_of c.args.plan.now).delimiter columns c.args.self.now.column (column_at columns c.args.self.now.column).kind ((limits at).kinds c.args.self.now.column c.requires.column.column_within))
 
-pub put_own_days-requires-clause-days : goal.put_own_days-requires-clause-days
-put_own_days-requires-clause-days c = λ i within.
-    let at : After-index-columns-self = (goal.at.put_own_days-requires-clause-days c).After-index-columns-self in
+pub put_days-requires-clause-days : goal.put_days-requires-clause-days
+put_days-requires-clause-days c = λ i within.
+    let at : After-index-columns-self = (goal.at.put_days-requires-clause-days c).After-index-columns-self in
     column_has_day (layout_of c.args.plan.now) c.args.self.now.table c.args.self.now.column (layout_of c.args.plan.now).units c.index-columns-self.result (run_row c.args.rows i)
     (limits at) c.requires.column.column_within (own_is at) (c.requires.rows.born i within) (c.requires.rows.changed i within)
 
 pub returns-clause-within : goal.returns-clause-within
 returns-clause-within c = λ shown i within.
     let at : After-index-columns-self = (goal.at.returns-clause-within c).After-index-columns-self in
-    day-within c.args.plan.now c.args.self.now (run_row c.args.rows i) (get_or c.put_own_days.new.days i (pos 0)) c.requires.column (limits at) (c.requires.rows.born i within) (c.requires.rows.changed i within)
+    day-within c.args.plan.now c.args.self.now (run_row c.args.rows i) (get_or c.put_days.new.days i (pos 0)) c.requires.column (limits at) (c.requires.rows.born i within) (c.requires.rows.changed i within)
     (sym (run_day c.args.plan.now c.args.self.now c.index-columns-self.result c.args.rows i c.requires.column (own_is at))
-    ∙ c.put_own_days.ensures.exact shown i within)
+    ∙ subst (λ (seed : ℕ). ready_own_day (run_row c.args.rows i) (draw (run_seed seed c.index-columns-self.result.changes c.args.rows i)) c.index-columns-self.result.kind ≡ Some (get_or c.put_days.new.days i (pos 0)))
+    (ap (λ (r : RunColumnOf). r.seed) c.self.view_is) (c.put_days.ensures.exact shown i within))
 
 pub returns-clause-none : goal.returns-clause-none
 returns-clause-none c = λ none row.
     let at : After-index-columns-self = (goal.at.returns-clause-none c).After-index-columns-self in
-    no_day c.args.plan.now c.args.self.now c.index-columns-self.result row (own_is at) (c.put_own_days.ensures.none none)
+    no_day c.args.plan.now c.args.self.now c.index-columns-self.result row (own_is at) (c.put_days.ensures.none none)

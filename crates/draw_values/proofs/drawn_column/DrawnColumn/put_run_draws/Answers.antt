@@ -1,7 +1,7 @@
 use Rattle.std.proofs.Common.{ℕ, List, get_or, ap, ◌∙◌, arith}
 use Rattle.std.proofs.lemmas.List.{get_or-map}
 use Rattle.philox_seeds.specs.SeedTree.{draw}
-use Rattle.draw_values.proofs.run_column.RunColumn.put_run_draws.Goals as goal
+use Rattle.draw_values.proofs.drawn_column.DrawnColumn.put_run_draws.Goals as goal
 
 pub returns : goal.returns
 returns c = λ i within.
