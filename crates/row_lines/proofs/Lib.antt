@@ -20,13 +20,13 @@ mod StillRowLemmas
 pub mod RestedLineLemmas
 mod ReportLemmas
 mod KeptLemmas
-mod PieceLemmas
+pub mod PieceLemmas
 pub mod RunListLemmas
 pub mod RunTextLemmas
 pub mod RunFieldLemmas
 mod RunPieceLemmas
-mod RunLookupLemmas
-mod RunValueLemmas
+pub mod RunLookupLemmas
+pub mod RunValueLemmas
 mod RunParentLemmas
 mod RunKeyLemmas
 mod RowOfRunLemmas

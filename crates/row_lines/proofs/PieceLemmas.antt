@@ -16,7 +16,7 @@ piece_text_at-take n pieces i below =
     ap (λ (texts : List (List ℕ)). get_or texts i []) (sym (take-map piece_text n pieces)) ∙ get_or-take n (map piece_text pieces) i [] below
 
 -- before the part that is set, and in it
-piece_text_at-before : (start k : ℕ) (pieces fields : List Piece) (i : ℕ) → i < start → start ≤ length pieces → piece_text_at (put_mid start k pieces fields) i ≡ piece_text_at pieces i
+pub piece_text_at-before : (start k : ℕ) (pieces fields : List Piece) (i : ℕ) → i < start → start ≤ length pieces → piece_text_at (put_mid start k pieces fields) i ≡ piece_text_at pieces i
 piece_text_at-before start k pieces fields i before within =
     sym (piece_text_at-take (start + length fields) (put_mid start k pieces fields) i (omega (arith, before)))
     ∙ ap (λ (all : List Piece). piece_text_at all i) (take-put_mid start k pieces fields (start + length fields) (omega arith) within)
@@ -25,7 +25,7 @@ piece_text_at-before start k pieces fields i before within =
     (omega (arith, before, within, length-map (take start pieces) piece_text, length-take start pieces))
     ∙ piece_text_at-take start pieces i before
 
-piece_text_at-in : (start k : ℕ) (pieces fields : List Piece) (i : ℕ) → i < length fields → start ≤ length pieces → piece_text_at (put_mid start k pieces fields) (start + i) ≡ piece_text_at fields i
+pub piece_text_at-in : (start k : ℕ) (pieces fields : List Piece) (i : ℕ) → i < length fields → start ≤ length pieces → piece_text_at (put_mid start k pieces fields) (start + i) ≡ piece_text_at fields i
 piece_text_at-in start k pieces fields i inside within =
     let front : length (map piece_text (take start pieces)) ≡ start = omega (arith, within, length-map (take start pieces) piece_text, length-take start pieces) in
     sym (piece_text_at-take (start + length fields) (put_mid start k pieces fields) (start + i) (omega (arith, inside)))
