@@ -9,3 +9,8 @@ pub mod WordListLemmas
 pub mod ShownLemmas
 pub mod LineSizeLemmas
 pub mod LineValueLemmas
+pub mod LineRunLemmas
+pub mod LineTotalLemmas
+pub mod LineListLemmas
+pub mod LineParentLemmas
+pub mod LineMixedLemmas

@@ -225,22 +225,27 @@ module _ (line : LineOver) (keeps : KeepsRules line.over.plan line.over.kept) (l
     pub shown : IsDayAt line column (Some (earlier +ℤ by))
     pub calendar : IsBetweenCalendar (earlier +ℤ by)
 
-  pub day-later : (shown : Shown) → AreShown line column shown → (after : ReadyAfter) → IsAfterAt line column after → (earlier by : ℤ) → get_or shown.days after.of None ≡ Some earlier →
+  pub day-from : (after : ReadyAfter) → IsAfterAt line column after → (earlier by : ℤ) → ((n : ℕ) → after.of < n → Some earlier ≡ line_day_in n here after.of) → IsDayOf (facts_among facts after.of).days earlier →
       by ≡ chosen after.lo after.hi 1 (draws 1) → IsBetween after.lo after.hi by → IsLater earlier by
-  day-later shown are after is earlier by found by_is between =
+  day-from after is earlier by found before by_is between =
       let knows = known_as (after_kind after.of after.lo after.hi) is.kind in
-      let before = subst (λ (o : Option ℤ). IfSome o (IsDayOf (facts_among facts after.of).days)) found (are.days_within after.of is.earlier) in
       let made = after-within (facts_among facts after.of).days told.days after.lo after.hi earlier by knows.days knows.dated before between in
       record {
         shown = (
           (λ n past.
               ap (λ (b : ℤ). Some (earlier +ℤ b)) by_is
-              ∙ ap (option_map (λ (e : ℤ). e +ℤ chosen after.lo after.hi 1 (draws 1))) (sym found ∙ are.each_day after.of n is.earlier (omega (arith, past, is.earlier)))
+              ∙ ap (option_map (λ (e : ℤ). e +ℤ chosen after.lo after.hi 1 (draws 1))) (found n (omega (arith, past, is.earlier)))
               ∙ ap (line_day_by (line_day_in n here) here column) (sym is.kind)),
           made.0,
         );
         calendar = made.1;
       }
+
+  pub day-later : (shown : Shown) → AreShown line column shown → (after : ReadyAfter) → IsAfterAt line column after → (earlier by : ℤ) → get_or shown.days after.of None ≡ Some earlier →
+      by ≡ chosen after.lo after.hi 1 (draws 1) → IsBetween after.lo after.hi by → IsLater earlier by
+  day-later shown are after is earlier by found by_is between =
+      day-from after is earlier by (λ n past. sym found ∙ are.each_day after.of n is.earlier past)
+      (subst (λ (o : Option ℤ). IfSome o (IsDayOf (facts_among facts after.of).days)) found (are.days_within after.of is.earlier)) by_is between
 
   -- none comes of a null one
   pub day-lost : (shown : Shown) → AreShown line column shown → (after : ReadyAfter) → IsAfterAt line column after → get_or shown.days after.of None ≡ None → IsDayAt line column None

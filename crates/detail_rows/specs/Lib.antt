@@ -4,3 +4,4 @@ pub mod Shown
 pub mod Packages
 pub mod Parent
 pub mod Applying
+pub mod LineRuns

@@ -1,5 +1,5 @@
 -- What is kept for the lines of a detail table, and for one line.
-use Rattle.std.specs.Prelude.{◌≡◌, ◌<◌, ◌≤◌, ℕ, ◌+◌, ◌-◌, List, ◌∷◌, flat_map, get_or, length, map, sum_by}
+use Rattle.std.specs.Prelude.{◌≡◌, ◌<◌, ◌≤◌, ℕ, ◌+◌, ◌-◌, List, ◌∷◌, Option, flat_map, get_or, length, map, sum_by}
 use Rattle.std.specs.List.{range_with_len}
 use Rattle.philox_seeds.specs.SeedTree.{column_seed, field_draw, table_seed, unit_seed}
 use Rattle.row_text.specs.Fields.{field_text}
@@ -9,7 +9,10 @@ use Rattle.schema_plan.specs.Dictionaries.{Project}
 use Rattle.schema_plan.specs.FieldSizes.{size_of}
 use Rattle.schema_plan.specs.Layout.{ColumnLayout, column_at, layout_of, table_layouts}
 use Rattle.schema_plan.specs.Limits.{IsInLimits as IsPlanInLimits}
+use Rattle.schema_plan.specs.declared.ready.ReadyColumn.{ReadyColumn}
+use Rattle.schema_plan.specs.Ready.{ready_column}
 use Rattle.draw_values.specs.declared.values.RowAt.{RowAt}
+use Rattle.draw_values.specs.Runs.{DrawnColumnOf, RunColumnOf, drawn_column}
 use Rattle.draw_values.specs.Values.{draw_unit}
 use Rattle.life_intervals.specs.Generator.{generator_of, last_unit, table_of}
 use Rattle.life_intervals.specs.Intervals.{change_unit, row_at}
@@ -17,6 +20,8 @@ use Rattle.life_intervals.specs.Keys.{key_of}
 use Rattle.life_intervals.specs.Rows.{Row}
 use Rattle.row_lines.specs.Lookups.{StillRowOf}
 use Rattle.row_lines.specs.RowViews.{at_row}
+use Rattle.row_lines.specs.Runs.{behind}
+use Rattle.row_lines.specs.TableLines.{shown_by}
 use Rattle.detail_plan.specs.Kept.{Kept, KeepsRules}
 use Rattle.detail_plan.specs.Limits.{IsInLimits}
 use Rattle.detail_rows.specs.declared.detail_lines.LineKind.{LineKind}
@@ -54,8 +59,32 @@ detail_seed kept = table_seed (count kept.detail.seed) 0
 abbrev pub column_seeds : Kept → List ℕ
 column_seeds kept = map (column_seed (detail_seed kept)) (range_with_len 0 (length kept.detail.columns))
 
--- what is kept of the lines: the seed that draws how many there are, the fewest, how many more there may be, and the seeds of the columns
-pub record AreKept (over : LinesOver) (byte counts least spread : ℕ) (seeds : List ℕ) : Type 0 where
+-- the byte behind the field of the column at a place
+abbrev pub behind_over : LinesOver → ℕ → ℕ
+behind_over over column = behind (delimiter_over over) (own_over over) column
+
+-- the column at a place as it is kept ready
+abbrev pub ready_over : LinesOver → ℕ → ReadyColumn
+ready_over over column = ready_column (delimiter_over over) (column_at (columns_over over) column)
+
+-- the same prepared for runs, and all of them
+abbrev pub prepared_column : LinesOver → ℕ → DrawnColumnOf
+prepared_column over column =
+    drawn_column (ready_over over column).kind (column_seed (detail_seed over.kept) column) (behind_over over column)
+
+abbrev pub prepared_columns : LinesOver → List DrawnColumnOf
+prepared_columns over = map (prepared_column over) (range_with_len 0 (own_over over))
+
+-- of a column of the parent, that one prepared for runs, with the byte behind the line's field; None of any other kind
+abbrev pub shown_column : LinesOver → ℕ → Option RunColumnOf
+shown_column over column = shown_by over.plan (behind_over over column) (ready_over over column).kind
+
+abbrev pub shown_columns : LinesOver → List (Option RunColumnOf)
+shown_columns over = map (shown_column over) (range_with_len 0 (own_over over))
+
+-- what is kept of the lines: the seed that draws how many there are, the fewest, how many more there may be, the seeds of the
+-- columns, the columns prepared for runs, and those of the parent that they show
+pub record AreKept (over : LinesOver) (byte counts least spread : ℕ) (seeds : List ℕ) (columns : List DrawnColumnOf) (shown : List (Option RunColumnOf)) : Type 0 where
   pub sound : IsPlanInLimits over.plan
   pub keeps : KeepsRules over.plan over.kept
   pub limits : IsInLimits over.kept.lists over.kept.detail
@@ -64,6 +93,8 @@ pub record AreKept (over : LinesOver) (byte counts least spread : ℕ) (seeds : 
   pub least_is : least ≡ count over.kept.detail.lo
   pub spread_is : spread ≡ count over.kept.detail.hi - count over.kept.detail.lo + 1
   pub seeds_are : seeds ≡ column_seeds over.kept
+  pub columns_are : columns ≡ prepared_columns over
+  pub shown_are : shown ≡ shown_columns over
 
 -- ---- rows of the parent
 

@@ -5,25 +5,31 @@ ghost use Rattle.std.specs.List.{range_with_len};
 ghost use Rattle.philox_seeds.specs.SeedTree.{column_seed};
 ghost use Rattle.cohort_sizes.specs.Births.{LiesIn};
 ghost use Rattle.schema_plan.specs.Counts.{count};
+ghost use Rattle.schema_plan.specs.FactsBefore.{facts_among};
 ghost use Rattle.schema_plan.specs.Limits.{IsInLimits as IsPlanInLimits};
 ghost use Rattle.life_intervals.specs.Generator.{last_unit, table_of};
+ghost use Rattle.row_lines.specs.Runs.{behind};
 ghost use Rattle.detail_plan.specs.Kept.{KeepsRules};
 ghost use Rattle.detail_plan.specs.Limits.{IsInLimits};
 ghost use Rattle.detail_plan.specs.Rules.{line_size};
+ghost use Rattle.detail_rows.specs.LineRuns.{is_drawn};
+ghost use Rattle.detail_rows.specs.Lines.{count_column, layout_beside, lines_of_draw};
 ghost use Rattle.detail_rows.specs.Shown.{IsWide};
-ghost use Rattle.detail_rows.specs.Made.{AreMany, AreSeeds, AreSeedsBefore, AreToldRows, IsParentAt, IsToldRow, column_seeds, delimiter_over, made_key_line, made_line, made_row, made_rows, own_over, row_of, told_at, told_count};
+ghost use Rattle.detail_rows.specs.Made.{AreMany, AreSeeds, AreSeedsBefore, AreToldRows, IsParentAt, IsToldRow, column_seeds, delimiter_over, detail_seed, made_key_line, made_line, made_row, made_rows, own_over, prepared_columns, row_of, shown_columns, told_at, told_count};
 
 use crate::line::DetailLine;
+use crate::line_parents::{is_short_shown, shown_columns};
 use crate::parent_row::{ParentRow, ParentRows};
 use crate::shown::{MOST_COLUMNS, Shown};
 use detail_plan::{Detail, DetailPlan};
+use draw_values::{ColumnSeeds, DrawnColumn, RunColumn};
 use fixed_divisors::FixedDivisor;
 use life_intervals::Rows;
-use line_pages::{PageBuf, Piece};
+use line_pages::{Digits, PageBuf, Piece};
 use out_of_memory::Memory;
 use philox_seeds::{column_seed, draw, row_seed, table_seed, unit_seed};
 use row_lines::StillRow;
-use schema_plan::{Plan, ReadyColumn, count};
+use schema_plan::{ColumnFacts, Plan, ReadyColumn, ReadyKind, count};
 use std::alloc::Global;
 use std::marker::Model;
 use std::sync::ledger::Ledger;
@@ -31,6 +37,9 @@ use step_count::Steps;
 
 /// The column number whose seed draws how many lines a row has.
 const COUNT_COLUMN: u32 = 32;
+
+/// The most units for which the seeds of numbers of lines are kept.
+const SEED_ROOM: u64 = 4096;
 
 /// The most lines of a row.
 const MOST_LINES: u64 = 64;
@@ -60,10 +69,14 @@ pub(crate) struct DetailLines<'a> {
     plan: &'a Plan,
     detail: &'a DetailPlan,
     delimiter: u8,
-    counts: u64,
+    counts: ColumnSeeds,
     least: u64,
     spread: FixedDivisor,
     seeds: Vec<u64>,
+    columns: Vec<DrawnColumn>,
+    shown: Vec<Option<RunColumn>>,
+    digits: Digits,
+    in_runs: bool,
 }
 
 impl Drop for DetailLines<'_> {
@@ -72,12 +85,20 @@ impl Drop for DetailLines<'_> {
             plan: _,
             detail: _,
             delimiter: _,
-            counts: _,
+            counts,
             least: _,
             spread: _,
             seeds,
+            columns,
+            shown,
+            digits,
+            in_runs: _,
         } = self;
+        drop(counts);
         drop(seeds);
+        drop(columns);
+        drop(shown);
+        drop(digits);
     }
 }
 
@@ -88,7 +109,7 @@ impl<'a> Model for DetailLines<'a> {
 
     ghost view = { λ l. record { plan = l.plan.now; kept = l.detail.now } };
 
-    ghost invariant = { λ l. AreKept (record { plan = l.plan.now; kept = l.detail.now }) l.delimiter l.counts l.least l.spread l.seeds.items };
+    ghost invariant = { λ l. AreKept (record { plan = l.plan.now; kept = l.detail.now }) l.delimiter l.counts l.least l.spread l.seeds.items l.columns.items l.shown.items };
 }
 
 /// Returns the seeds of the first `many` columns below a seed.
@@ -100,6 +121,96 @@ fn column_seeds(alloc: Global, seed: u64, many: u32) -> Result<Vec<u64>, Memory>
         seeds.push(column_seed(seed, column))?;
     }
     Ok(seeds)
+}
+
+/// Prepares the columns of a detail table for runs. `seed` is the detail table's.
+fn line_columns(
+    alloc: Global,
+    plan: &Plan,
+    detail: &DetailPlan,
+    seed: u64,
+) -> Result<Vec<DrawnColumn>, Memory>
+    requires keeps { KeepsRules plan.now detail.now }
+    requires seed { seed ≡ detail_seed detail.now }
+    ensures { IfOk result (λ made. made.items ≡ prepared_columns (record { plan = plan.now; kept = detail.now })) }
+{
+    let many = detail.detail().columns.len();
+    let columns = detail.columns();
+    let mut made = Vec::with_capacity(alloc, many)?;
+    for column in 0..many {
+        let behind = byte_behind(plan.delimiter(), many, column);
+        let seed = column_seed(seed, column as u32);
+        made.push(DrawnColumn::new(alloc, &columns[column], seed, behind, plan.units())?)?;
+    }
+    Ok(made)
+}
+
+/// Returns the byte after the field of the column at a place, of so many: the delimiter, or the line feed after the last one.
+pub(crate) fn byte_behind(delimiter: u8, many: usize, column: usize) -> u8
+    requires { column < many }
+    ensures { result ≡ behind delimiter many column }
+{
+    if column + 1 == many { b'\n' } else { delimiter }
+}
+
+/// Whether lines are tried side by side. Any answer gives the same lines: they are made one by one where they don't come side by side.
+fn come_in_runs(columns: &[ReadyColumn], shown: &[Option<RunColumn>]) -> bool {
+    for (i, shown) in shown.iter().enumerate() {
+        let is_made = match columns.get(i) {
+            Some(own) => comes_in_runs(columns, own, shown),
+            None => false,
+        };
+        if !is_made {
+            return false;
+        }
+    }
+    true
+}
+
+/// Whether the fields of a column are tried for lines side by side.
+fn comes_in_runs(columns: &[ReadyColumn], own: &ReadyColumn, shown: &Option<RunColumn>) -> bool {
+    match &own.kind {
+        ReadyKind::Drawn(_) => true,
+        ReadyKind::Lookup(_) => is_short_shown(shown),
+        ReadyKind::After(after) => match columns.get(after.of as usize) {
+            Some(column) => column.null == 0 && shows_days(&column.kind),
+            None => false,
+        },
+        ReadyKind::Sum { of } | ReadyKind::Product { of } => are_drawn(columns, of.as_slice()),
+        _ => false,
+    }
+}
+
+/// Whether the days of a column are found for lines side by side.
+fn shows_days(kind: &ReadyKind) -> bool {
+    match kind {
+        ReadyKind::Drawn(_) | ReadyKind::After(_) | ReadyKind::Lookup(_) => true,
+        _ => false,
+    }
+}
+
+/// Whether the columns at some places are drawn, and are never null.
+fn are_drawn(columns: &[ReadyColumn], places: &[u64]) -> bool {
+    for place in places {
+        let is_drawn = match columns.get(*place as usize) {
+            Some(column) => column.null == 0 && is_drawn(&column.kind),
+            None => false,
+        };
+        if !is_drawn {
+            return false;
+        }
+    }
+    true
+}
+
+/// Whether the fields of a column are drawn.
+pub(crate) fn is_drawn(kind: &ReadyKind) -> bool
+    ensures { result ≡ is_drawn kind.now }
+{
+    match kind {
+        ReadyKind::Drawn(_) => true,
+        _ => false,
+    }
 }
 
 /// Appends the key of a row and the number of a line, with the delimiter between them. 23 bytes must be free.
@@ -116,7 +227,7 @@ fn put_head(delimiter: u8, key: u64, number: u64, page: &mut PageBuf)
 }
 
 /// Returns the unit at which the fields of a column are drawn for a row.
-fn draw_unit(column: &ReadyColumn, row: &ParentRow) -> u64
+pub(crate) fn draw_unit(column: &ReadyColumn, row: &ParentRow) -> u64
     ensures { result ≡ (if column.now.changes then row.now.changed else row.now.born) }
 {
     if column.changes {
@@ -153,19 +264,28 @@ impl<'a> DetailLines<'a> {
         let declared = detail.detail();
         let seed = table_seed(count(declared.seed), 0);
         let seeds = column_seeds(alloc, seed, declared.columns.len() as u32)?;
+        let counts = column_seed(seed, COUNT_COLUMN);
+        let columns = line_columns(alloc, plan, detail, seed)?;
+        let shown = shown_columns(alloc, plan, detail)?;
+        let ready = detail.columns();
+        let in_runs = come_in_runs(ready, shown.as_slice());
         Ok(DetailLines {
             plan,
             detail,
             delimiter: plan.delimiter(),
-            counts: column_seed(seed, COUNT_COLUMN),
+            counts: ColumnSeeds::below(alloc, counts, plan.units(), SEED_ROOM)?,
             least: count(declared.lo),
             spread: FixedDivisor::new(count(declared.hi) - count(declared.lo) + 1),
             seeds,
+            columns,
+            shown,
+            digits: Digits::new(alloc)?,
+            in_runs,
         })
     }
 
     /// Returns the detail table.
-    fn declared(&self) -> &Detail
+    pub(crate) fn declared(&self) -> &Detail
         ensures value { result.now ≡ self.now.kept.detail }
         ensures limits { IsInLimits self.now.kept.lists self.now.kept.detail }
         ensures keeps { KeepsRules self.now.plan self.now.kept }
@@ -183,7 +303,7 @@ impl<'a> DetailLines<'a> {
     }
 
     /// Returns the byte between two fields.
-    fn delimiter(&self) -> u8
+    pub(crate) fn delimiter(&self) -> u8
         ensures { result ≡ delimiter_over self.now }
     {
         self.delimiter
@@ -211,8 +331,68 @@ impl<'a> DetailLines<'a> {
         ensures few { result ≤ MOST_LINES }
     {
         let _limits = self.declared(); // it has at most 64
-        let seed = row_seed(unit_seed(self.counts, row.born), row.ordinal);
-        self.least + self.spread.remainder(draw(seed, 1))
+        let seed = row_seed(self.counts.at(row.born), row.ordinal);
+        self.count_of(draw(seed, 1))
+    }
+
+    /// Returns how many lines a draw gives a row.
+    pub(crate) fn count_of(&self, draw: u64) -> u64
+        ensures count { result ≡ lines_of_draw (layout_beside self.now.plan self.now.kept) draw }
+        ensures most { result ≤ count self.now.kept.detail.hi }
+        ensures few { result ≤ MOST_LINES }
+    {
+        let _limits = self.declared(); // a row has at most 64
+        self.least + self.spread.remainder(draw)
+    }
+
+    /// Returns the seeds, by unit of birth, from which the numbers of lines are drawn.
+    pub(crate) fn counts(&self) -> &ColumnSeeds
+        ensures { result.now ≡ column_seed (detail_seed self.now.kept) count_column }
+    {
+        &self.counts
+    }
+
+    /// Returns the texts of four digits.
+    pub(crate) fn digits(&self) -> &Digits {
+        &self.digits
+    }
+
+    /// Returns the columns, prepared for runs.
+    pub(crate) fn prepared(&self) -> &[DrawnColumn]
+        ensures { result.now ≡ prepared_columns self.now }
+    {
+        self.columns.as_slice()
+    }
+
+    /// Returns, for each column of the parent, that one prepared for runs. Any other column has None.
+    pub(crate) fn shown(&self) -> &[Option<RunColumn>]
+        ensures { result.now ≡ shown_columns self.now }
+    {
+        self.shown.as_slice()
+    }
+
+    /// Returns the plan.
+    pub(crate) fn plan(&self) -> &'a Plan
+        ensures value { result.now ≡ self.now.plan }
+        ensures sound { IsPlanInLimits self.now.plan }
+    {
+        self.plan
+    }
+
+    /// Returns the columns, ready for lines, and behind them the reference to the parent.
+    pub(crate) fn ready(&self) -> &'a [ReadyColumn]
+        ensures value { result.now ≡ self.now.kept.columns }
+        ensures keeps { KeepsRules self.now.plan self.now.kept }
+        ensures limits { IsInLimits self.now.kept.lists self.now.kept.detail }
+    {
+        self.detail.columns()
+    }
+
+    /// Returns the facts of the column at a place.
+    pub(crate) fn facts(&self, column: usize) -> ColumnFacts
+        ensures { result ≡ facts_among self.now.kept.facts column }
+    {
+        self.detail.facts(column)
     }
 
     /// Puts the seed of each column for the unit at which a row's field is drawn.
@@ -365,8 +545,8 @@ impl<'a> DetailLines<'a> {
         }
     }
 
-    /// Appends all lines of the first `many` rows, whole or as keys only.
-    pub(crate) fn put_rows<L: Ledger>(
+    /// Appends all lines of the first `many` rows, whole or as keys only, one row after the other.
+    fn put_each_row<L: Ledger>(
         &self,
         kind: LineKind,
         at: &ParentAt<'_>,
@@ -387,6 +567,30 @@ impl<'a> DetailLines<'a> {
         let seeds = &mut all[..self.columns()];
         for i in 0..many {
             self.put_row(kind, at, rows, i, many, seeds, page, steps);
+        }
+    }
+
+    /// Appends all lines of the first `many` rows, whole or as keys only.
+    pub(crate) fn put_rows<L: Ledger>(
+        &self,
+        kind: LineKind,
+        at: &ParentAt<'_>,
+        rows: &ParentRows<'_>,
+        many: usize,
+        page: &mut PageBuf,
+        steps: &mut Steps<L>,
+    )
+        requires at { IsParentAt self.now at.now }
+        requires few { many ≤ 256 }
+        requires many { AreMany many rows.now }
+        requires told { AreToldRows self.now at.now.unit kind rows.now }
+        requires room { length page.old.text + many * self.now.kept.reach ≤ page.old.room }
+        ensures text { page.new ≡ record page.old { text = page.old.text ++ made_rows self.now kind at.now.unit rows.now many } }
+        ensures size { length (made_rows self.now kind at.now.unit rows.now many) ≤ many * self.now.kept.reach }
+    {
+        match kind {
+            LineKind::Whole if self.in_runs => self.put_runs(at, rows, many, page, steps),
+            _ => self.put_each_row(kind, at, rows, many, page, steps),
         }
     }
 }

@@ -5,6 +5,12 @@
 mod applied;
 mod detail_lines;
 mod line;
+mod line_columns;
+mod line_mixed;
+mod line_parents;
+mod line_run;
+mod line_runs;
+mod line_totals;
 mod packer;
 mod parent_lines;
 mod parent_row;

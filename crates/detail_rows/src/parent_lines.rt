@@ -165,6 +165,7 @@ impl<'a> ParentLines<'a> {
         steps: &mut Steps<L>,
     )
         requires unit { t ≤ last_unit self.now.plan }
+        requires few { length told.now.ordinals.now ≤ MOST_ROWS }
         requires many { AreMany (length told.now.ordinals.now) told.now }
         requires told { AreToldRows self.now t kind told.now }
         requires room { length page.old.text + length told.now.ordinals.now * self.now.kept.reach ≤ page.old.room }

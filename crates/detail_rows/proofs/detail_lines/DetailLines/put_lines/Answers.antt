@@ -4,12 +4,9 @@ use Rattle.std.proofs.Math.Nat.{mul-le-mul_right}
 use Rattle.schema_plan.specs.Counts.{count}
 use Rattle.detail_plan.specs.Rules.{line_size}
 use Rattle.row_lines.proofs.RunTextLemmas.{appended-more, room-more, sizes-more}
-use Rattle.detail_rows.specs.declared.detail_lines.LineKind.TheVariants.{Whole}
-use Rattle.detail_rows.specs.Lines.{lines_of_row}
-use Rattle.detail_rows.specs.declared.parent_row.ParentRow.{ParentRow}
-use Rattle.detail_rows.specs.Made.{IsToldRow, LinesOver, made_line, made_row, told_count}
+use Rattle.detail_rows.specs.Made.{LinesOver, made_line, told_count}
 use Rattle.detail_rows.proofs.LineLemmas.{lines-more}
-use Rattle.detail_rows.proofs.ParentLemmas.{count-told}
+use Rattle.detail_rows.proofs.LineListLemmas.{all_lines}
 use Rattle.detail_rows.proofs.detail_lines.DetailLines.put_lines.Goals as goal
 
 pub put_line-requires-clause-room : goal.put_line-requires-clause-room
@@ -34,12 +31,6 @@ loop-done-preserved g c =
       text = appended-more c.args.page.now c.loop-done.page c.put_line.new.page so_far _ _ c.loop-done.invariant.text c.put_line.ensures.text more;
       size = sizes-more so_far _ _ c.loop-done.done 1 (line_size over.plan over.kept.lists over.kept.detail) more c.loop-done.invariant.size (omega (arith, c.put_line.ensures.size));
     }
-
--- all lines of the row
-all_lines : (over : LinesOver) (unit : ℕ) (row : ParentRow) (done : ℕ) → IsToldRow over unit Whole row → done ≡ told_count over row →
-    flat_map (made_line over unit row.ordinal) (range_with_len 1 done) ≡ made_row over Whole unit row.ordinal
-unfolding lines_of_row
-all_lines over unit row done told is = ap (λ (many : ℕ). flat_map (made_line over unit row.ordinal) (range_with_len 1 many)) (is ∙ count-told over unit Whole row told)
 
 pub returns-clause-text : goal.returns-clause-text
 returns-clause-text g c =

@@ -1,7 +1,7 @@
 use Rattle.std.proofs.Common.{◌≡◌, ◌≤◌, ◌*◌, ◌++◌, length}
 use Rattle.detail_rows.specs.declared.detail_lines.LineKind.TheVariants.{Whole}
 use Rattle.detail_rows.specs.Made.{AreSeedsBefore, made_rows}
-use Rattle.detail_rows.proofs.detail_lines.DetailLines.put_rows.Given as goal
+use Rattle.detail_rows.proofs.detail_lines.DetailLines.put_each_row.Given as goal
 
 abbrev pub invariant-loop-i : goal.invariant-loop-i
 invariant-loop-i g l = record {

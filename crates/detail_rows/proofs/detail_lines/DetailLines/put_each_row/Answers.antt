@@ -2,7 +2,7 @@ use Rattle.std.proofs.Common.{◌≡◌, ◌+◌, ◌-◌, ℕ, List, arith, sub
 use Rattle.life_intervals.proofs.Ranges.{flat_map-range_with_len_more}
 use Rattle.row_lines.proofs.RunTextLemmas.{appended-more, room-more, sizes-more}
 use Rattle.detail_rows.specs.Made.{AreSeeds, LinesOver, made_row, made_rows, row_of, told_at}
-use Rattle.detail_rows.proofs.detail_lines.DetailLines.put_rows.Goals as goal
+use Rattle.detail_rows.proofs.detail_lines.DetailLines.put_each_row.Goals as goal
 
 pub put_row-requires-clause-room : goal.put_row-requires-clause-room
 put_row-requires-clause-room g c =
