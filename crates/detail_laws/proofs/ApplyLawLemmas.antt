@@ -11,7 +11,7 @@ use Rattle.row_text.specs.Lines.{IsLineBody, line_text}
 use Rattle.row_text.proofs.ReadLemmas.{IsLineBody-same}
 use Rattle.cohort_sizes.specs.Births.{Births, born_count, cohort_size, first_ordinal}
 use Rattle.cohort_sizes.proofs.CohortLemmas.{born_count-le, born_count-next}
-use Rattle.schema_plan.specs.Dictionaries.{Project}
+use Rattle.schema_facts.specs.Dictionaries.{Project}
 use Rattle.schema_plan.specs.Limits.{IsInLimits}
 use Rattle.life_intervals.specs.Generator.{Generator, generator_of, last_unit, table_of}
 use Rattle.life_intervals.specs.Intervals.{change_unit, dying, is_live, row_at}
@@ -38,8 +38,8 @@ use Rattle.update_box.proofs.StreamTextLemmas.{newborn-live}
 use Rattle.update_box.proofs.UpdateLemmas.{changes_at}
 use Rattle.detail_plan.specs.Kept.{Kept, KeepsRules}
 use Rattle.detail_rows.specs.Applying.{detail_streams}
-use Rattle.detail_rows.specs.Lines.{DetailLayout, Line, count_column, detail_deleted_text, detail_inserted_text, detail_line, detail_text, detail_updated_text, key_line, key_lines_of_row, key_of_row, layout_beside, line_count, lines_of_draw, lines_of_row, parent_place, value_fields}
-use Rattle.detail_rows.proofs.DeclaredLemmas.{parent-below}
+use Rattle.detail_lines.specs.Lines.{DetailLayout, Line, count_column, detail_deleted_text, detail_inserted_text, detail_line, detail_text, detail_updated_text, key_line, key_lines_of_row, key_of_row, layout_beside, line_count, lines_of_draw, lines_of_row, parent_place, value_fields}
+use Rattle.detail_lines.proofs.DeclaredLemmas.{parent-below}
 use Rattle.detail_laws.proofs.LineCountLemmas.{few-lines}
 use Rattle.detail_laws.proofs.LineFormLemmas.{value_fields-form}
 use Rattle.detail_laws.proofs.NumberedRowLemmas.{alike, is_line, lines-rows, number_of, number_of-at, row_of, row_of-at}

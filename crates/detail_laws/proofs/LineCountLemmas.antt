@@ -3,13 +3,13 @@ use Rattle.std.proofs.Common.{◌≡◌, ℕ, ℤ, pos, negsuc, ◌+◌, ◌-◌
 use Rattle.std.proofs.lemmas.Bool.{and_parts, leb-true}
 use Rattle.std.proofs.lemmas.Nat.{mod_below}
 use Rattle.philox_seeds.specs.SeedTree.{field_draw}
-use Rattle.schema_plan.specs.Counts.{count}
-use Rattle.schema_plan.specs.Dictionaries.{Project}
+use Rattle.schema_facts.specs.Counts.{count}
+use Rattle.schema_facts.specs.Dictionaries.{Project}
 use Rattle.life_intervals.specs.Rows.{Row}
 use Rattle.detail_plan.specs.Kept.{Kept, KeepsRules}
 use Rattle.detail_plan.specs.declared.detail.Detail.{Detail}
 use Rattle.detail_plan.proofs.Accepted.{keeps_each}
-use Rattle.detail_rows.specs.Lines.{count_column, layout_beside, line_count}
+use Rattle.detail_lines.specs.Lines.{count_column, layout_beside, line_count}
 
 ordered_counts : (lo hi : ℤ) → int_le lo hi ≡ true → count lo ≤ count hi
 ordered_counts (pos lo) (pos hi) ordered = leb-true lo hi ordered

@@ -2,13 +2,13 @@
 use Rattle.std.proofs.Common.{◌≡◌, ◌+ℤ◌, ℕ, ℤ, zero, suc, List, [], ◌∷◌, map, Option, refl, ap, ap₂}
 use Rattle.std.specs.List.{range_with_len}
 use Rattle.std.specs.Option.{option_map}
-use Rattle.schema_plan.specs.Layout.{KindLayout, after_kind, born_kind, case_kind, changed_kind, key_kind, leaf_kind, list_kind, lookup_kind, product_kind, reference_kind, sum_kind, template_kind, unit_date_kind}
+use Rattle.schema_facts.specs.Layout.{KindLayout, after_kind, born_kind, case_kind, changed_kind, key_kind, leaf_kind, list_kind, lookup_kind, product_kind, reference_kind, sum_kind, template_kind, unit_date_kind}
 use Rattle.draw_values.specs.declared.leaf_numbers.Number.{Number}
 use Rattle.draw_values.specs.Dates.{date_text}
 use Rattle.draw_values.specs.Values.{chosen, number_text}
 use Rattle.row_lines.specs.Derived.{columns_before, product_of, sum_of}
 use Rattle.row_lines.proofs.RowFormLemmas.{day-form as parent_day-form, field-form as parent_field-form, number-form as parent_number-form}
-use Rattle.detail_rows.specs.Lines.{Line, column_of, draws_of_line, line_day_by, line_day_in, line_field, line_number_by, line_number_in, line_value, unless_drawn_null, value_fields}
+use Rattle.detail_lines.specs.Lines.{Line, column_of, draws_of_line, line_day_by, line_day_in, line_field, line_number_by, line_number_in, line_value, unless_drawn_null, value_fields}
 
 module _ (line : Line) (left wait : Option ℕ) where
   -- the line, of the row with other numbers of units left

@@ -4,8 +4,8 @@ use Rattle.std.proofs.lemmas.Bool.{and_parts}
 use Rattle.row_text.specs.Fields.{IsDelimiter}
 use Rattle.cohort_sizes.specs.Births.{born_count}
 use Rattle.cohort_sizes.proofs.CohortLemmas.{born_count-le}
-use Rattle.schema_plan.specs.Dictionaries.{Project}
-use Rattle.schema_plan.specs.Layout.{layout_of}
+use Rattle.schema_facts.specs.Dictionaries.{Project}
+use Rattle.schema_facts.specs.Layout.{layout_of}
 use Rattle.schema_plan.specs.Limits.{IsInLimits}
 use Rattle.life_intervals.specs.Generator.{generator_of, last_unit, table_of}
 use Rattle.life_intervals.specs.Intervals.{is_live}
@@ -20,9 +20,9 @@ use Rattle.update_box.specs.TextLaws.{lines_with_key}
 use Rattle.update_box.proofs.KeyLineLemmas.{lines_with_key-live}
 use Rattle.detail_plan.specs.Kept.{Kept, KeepsRules}
 use Rattle.detail_laws.specs.Naming.{AreDetailLines, NamesOneRow}
-use Rattle.detail_rows.specs.Lines.{parent_place}
+use Rattle.detail_lines.specs.Lines.{parent_place}
 use Rattle.detail_laws.proofs.ApplyLawLemmas.{detail_text-lines, key, keyed-text, keys-apart, lines_of, live_lines, row-born, text}
-use Rattle.detail_rows.proofs.DeclaredLemmas.{parent-below}
+use Rattle.detail_lines.proofs.DeclaredLemmas.{parent-below}
 use Rattle.detail_laws.proofs.NumberedRowLemmas.{is_line, number_of, row_of}
 
 module _ (plan : Project) (limits : IsInLimits plan) (kept : Kept) (keeps : KeepsRules plan kept) (delimits : IsDelimiter (layout_of plan).delimiter) (t : ℕ) (within : t ≤ last_unit plan) where

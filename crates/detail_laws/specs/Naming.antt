@@ -1,15 +1,15 @@
 -- The lines of a detail table's text, each of which names a row of the parent.
 use Rattle.std.specs.Prelude.{◌≡◌, ℕ, List, [], ◌∷◌, All}
 use Rattle.row_text.specs.Lines.{line_text}
-use Rattle.schema_plan.specs.Dictionaries.{Project}
-use Rattle.schema_plan.specs.Layout.{layout_of}
+use Rattle.schema_facts.specs.Dictionaries.{Project}
+use Rattle.schema_facts.specs.Layout.{layout_of}
 use Rattle.life_intervals.specs.Generator.{generator_of}
 use Rattle.stream_apply.specs.KeyedLines.{KeyedLine}
 use Rattle.stream_apply.specs.Streams.{IsLoaded, text_fields}
 use Rattle.stream_apply.specs.declared.key_fields.KeyFields.TheVariants.{Two}
 use Rattle.update_box.specs.TextLaws.{lines_with_key}
 use Rattle.detail_plan.specs.Kept.{Kept}
-use Rattle.detail_rows.specs.Lines.{detail_text, parent_place}
+use Rattle.detail_lines.specs.Lines.{detail_text, parent_place}
 
 -- the key of a line is two fields, of which the first is the key of exactly one line of the parent's text at a unit
 abbrev pub NamesOneRow : Project → Kept → ℕ → KeyedLine → Type 0

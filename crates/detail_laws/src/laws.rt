@@ -2,8 +2,8 @@
 
 ghost use Rattle.std.specs.Prelude.{ℕ, ◌+◌, ◌-◌, ◌≤◌, List, [], ◌∷◌, flat_map};
 ghost use Rattle.std.specs.List.{range_with_len};
-ghost use Rattle.schema_plan.specs.Dictionaries.{Project};
-ghost use Rattle.schema_plan.specs.Layout.{layout_of};
+ghost use Rattle.schema_facts.specs.Dictionaries.{Project};
+ghost use Rattle.schema_facts.specs.Layout.{layout_of};
 ghost use Rattle.schema_plan.specs.Limits.{IsInLimits};
 ghost use Rattle.life_intervals.specs.Generator.{last_unit};
 ghost use Rattle.stream_apply.specs.InTurn.{IsAppliedText};
@@ -12,7 +12,7 @@ ghost use Rattle.stream_apply.specs.declared.key_fields.KeyFields.TheVariants.{T
 ghost use Rattle.detail_plan.specs.Kept.{Kept, KeepsRules};
 ghost use Rattle.detail_rows.specs.Applying.{detail_streams};
 ghost use Rattle.detail_laws.specs.Naming.{AreDetailLines};
-ghost use Rattle.detail_rows.specs.Lines.{detail_text};
+ghost use Rattle.detail_lines.specs.Lines.{detail_text};
 
 /// Applying the streams of a unit to a detail table's text at the unit before gives its text at the unit. Applying the streams of several
 /// units in turn gives its text at the last of them. No line is at fault.

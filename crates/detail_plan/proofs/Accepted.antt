@@ -9,14 +9,14 @@ use Rattle.schema_model.specs.declared.column.Column.{Column}
 use Rattle.schema_model.specs.declared.column.Kind.TheVariants as schema
 use Rattle.schema_model.specs.declared.column.Leaf.TheVariants.{Uuid}
 use Rattle.schema_plan.specs.Citations.{cited_in}
-use Rattle.schema_plan.specs.Counts.{count}
-use Rattle.schema_plan.specs.Dictionaries.{AreWordLists, Dictionary, Project}
-use Rattle.schema_plan.specs.FactsBefore.{facts_among}
+use Rattle.schema_facts.specs.Counts.{count}
+use Rattle.schema_facts.specs.Dictionaries.{AreWordLists, Dictionary, Project}
+use Rattle.schema_facts.specs.FactsBefore.{facts_among}
 use Rattle.schema_plan.specs.Limits.{CanBeReady, IsSpreadOf}
-use Rattle.schema_plan.specs.Layout.{kind_layout, layout_of}
-use Rattle.schema_plan.specs.Names.{is_name}
+use Rattle.schema_facts.specs.Layout.{kind_layout, layout_of}
+use Rattle.schema_facts.specs.Names.{is_name}
 use Rattle.schema_plan.specs.Planned.{table_named}
-use Rattle.schema_plan.specs.References.{IsSpreadWeight}
+use Rattle.schema_facts.specs.References.{IsSpreadWeight}
 use Rattle.schema_plan.specs.Rules.{is_supplied_kind_by, keeps_column_rules, kind_at, null_at}
 use Rattle.schema_plan.proofs.BesideLemmas.{are_facts_beside, known_tables}
 use Rattle.schema_check.proofs.BesideLimits.{can_be_ready, keeps_column}

@@ -1,6 +1,6 @@
 -- What the refusal of a detail table says.
 use Rattle.std.specs.Prelude.{◌≡◌, List, Some, ⊤}
-use Rattle.schema_plan.specs.Dictionaries.{Dictionary, Project}
+use Rattle.schema_facts.specs.Dictionaries.{Dictionary, Project}
 use Rattle.detail_plan.specs.declared.check.DetailFault.{DetailFault}
 use Rattle.detail_plan.specs.declared.check.DetailFault.TheVariants.{Rule, Memory}
 use Rattle.detail_plan.specs.declared.detail.Detail.{Detail}

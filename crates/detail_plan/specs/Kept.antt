@@ -1,9 +1,9 @@
 -- What is kept of a detail table whose rules hold, and whose it is.
 use Rattle.std.specs.Prelude.{◌≡◌, ℕ, List, ◌++◌, None}
-use Rattle.schema_plan.specs.declared.column_facts.ColumnFacts.{ColumnFacts}
+use Rattle.schema_facts.specs.declared.column_facts.ColumnFacts.{ColumnFacts}
 use Rattle.schema_plan.specs.declared.ready.ReadyColumn.{ReadyColumn}
 use Rattle.schema_plan.specs.Beside.{ready_beside}
-use Rattle.schema_plan.specs.Dictionaries.{Dictionary, Project}
+use Rattle.schema_facts.specs.Dictionaries.{Dictionary, Project}
 use Rattle.detail_plan.specs.declared.detail.Detail.{Detail}
 use Rattle.detail_plan.specs.Beside.{columns_beside}
 use Rattle.detail_plan.specs.Rules.{facts_of, first_broken, reach_of}

@@ -1,10 +1,10 @@
 -- What the numbers of a detail table are, where its rules hold.
 use Rattle.std.specs.Prelude.{ℕ, ◌<◌, ◌≤◌, All, List, length}
 use Rattle.schema_model.specs.declared.column.Column.{Column}
-use Rattle.schema_plan.specs.declared.column_facts.ColumnFacts.{ColumnFacts}
-use Rattle.schema_plan.specs.Counts.{count}
-use Rattle.schema_plan.specs.Dictionaries.{Dictionary, Project}
-use Rattle.schema_plan.specs.Layout.{kind_layout}
+use Rattle.schema_facts.specs.declared.column_facts.ColumnFacts.{ColumnFacts}
+use Rattle.schema_facts.specs.Counts.{count}
+use Rattle.schema_facts.specs.Dictionaries.{Dictionary, Project}
+use Rattle.schema_facts.specs.Layout.{kind_layout}
 use Rattle.schema_plan.specs.Limits.{CanBeReady, IsCount, IsOfOthersAmong}
 use Rattle.schema_plan.specs.Rules.{kind_at}
 use Rattle.detail_plan.specs.declared.detail.Detail.{Detail}

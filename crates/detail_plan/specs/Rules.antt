@@ -3,14 +3,14 @@
 use Rattle.std.specs.Prelude.{ℕ, pos, ◌+◌, ◌*◌, List, [], ◌∷◌, Bool, true, false, not, ◌&&◌, Option, Some, None, filter, int_le, is_some, length, nat_le, option_map}
 use Rattle.std.specs.List.{list_all, range_with_len}
 use Rattle.schema_model.specs.declared.column.Column.{Column}
-use Rattle.schema_plan.specs.declared.column_facts.ColumnFacts.{ColumnFacts}
+use Rattle.schema_facts.specs.declared.column_facts.ColumnFacts.{ColumnFacts}
 use Rattle.schema_plan.specs.Beside.{facts_beside, line_beside}
 use Rattle.schema_plan.specs.Citations.{citable_in}
-use Rattle.schema_plan.specs.Counts.{count}
-use Rattle.schema_plan.specs.Dictionaries.{Dictionary, Project, dictionary_named}
-use Rattle.schema_plan.specs.FactsBefore.{facts_among}
-use Rattle.schema_plan.specs.Layout.{columns_of, place_of_table}
-use Rattle.schema_plan.specs.Names.{is_name}
+use Rattle.schema_facts.specs.Counts.{count}
+use Rattle.schema_facts.specs.Dictionaries.{Dictionary, Project, dictionary_named}
+use Rattle.schema_facts.specs.FactsBefore.{facts_among}
+use Rattle.schema_facts.specs.Layout.{columns_of, place_of_table}
+use Rattle.schema_facts.specs.Names.{is_name}
 use Rattle.schema_plan.specs.Planned.{table_named}
 use Rattle.schema_plan.specs.Rules.{are_columns_supplied, has_still_column, keeps_column_rules}
 use Rattle.detail_plan.specs.declared.detail.Detail.{Detail}

@@ -10,7 +10,8 @@ use crate::detail::Detail;
 use crate::plan::DetailPlan;
 use crate::rules::{first_broken, reach};
 use out_of_memory::Memory;
-use schema_plan::{Dictionaries, Plan};
+use schema_facts::Dictionaries;
+use schema_plan::Plan;
 use std::alloc::Global;
 
 /// Why a detail table has no plan.

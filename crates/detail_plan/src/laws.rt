@@ -1,6 +1,6 @@
 //! Laws of the definitions that the contracts cite. Each law is the contract of a function without a body.
 
-ghost use Rattle.schema_plan.specs.Dictionaries.{Project};
+ghost use Rattle.schema_facts.specs.Dictionaries.{Project};
 ghost use Rattle.detail_plan.specs.Kept.{Kept, KeepsRules};
 ghost use Rattle.detail_plan.specs.Limits.{AreMadeOfEarlier};
 

@@ -1,8 +1,9 @@
 //! A detail table whose rules hold.
 
 use crate::detail::Detail;
+use schema_facts::{ColumnFacts, Dictionaries, MAX_ITEMS, facts_among};
 use schema_model::Sequence;
-use schema_plan::{ColumnFacts, Dictionaries, MAX_ITEMS, Plan, ReadyColumn, facts_among};
+use schema_plan::{Plan, ReadyColumn};
 use std::marker::Model;
 
 /// A detail table that keeps its rules over a plan, with all word lists, and what doesn't change from line to line. A column is named by its
@@ -43,7 +44,7 @@ impl Model for DetailPlan {
 
 impl DetailPlan {
     ghost use Rattle.std.specs.Prelude.{◌≡◌, ◌≤◌};
-    ghost use Rattle.schema_plan.specs.FactsBefore.{facts_among};
+    ghost use Rattle.schema_facts.specs.FactsBefore.{facts_among};
     ghost use Rattle.detail_plan.specs.Limits.{IsInLimits};
     ghost use Rattle.detail_plan.specs.Kept.{KeepsRules};
     ghost use Rattle.detail_plan.specs.Rules.{reach_of};

@@ -1,16 +1,15 @@
 //! The rules of a detail table.
 
 ghost use Rattle.std.specs.Prelude.{◌≡◌, ◌≤◌, length};
-ghost use Rattle.schema_plan.specs.Capped.{capped};
+ghost use Rattle.schema_facts.specs.Capped.{capped};
 ghost use Rattle.detail_plan.specs.Beside.{columns_beside};
 ghost use Rattle.detail_plan.specs.Rules.{are_shown, facts_of, first_broken, has_columns, has_line_counts, has_new_name, has_parent, has_short_lines, is_shown, keep_column_rules, parent_columns, reach_of};
 
 use crate::detail::{Detail, DetailColumn, DetailKind};
 use schema_check::{are_columns_supplied, has_still_column, is_name, keeps_column_rules};
+use schema_facts::{ColumnFacts, Dictionaries, columns_of, count, facts_among, place_of_table};
 use schema_model::Column;
-use schema_plan::{
-    ColumnFacts, Dictionaries, Plan, columns_of, count, facts_among, place_of_table,
-};
+use schema_plan::Plan;
 
 /// The most lines of a row.
 const MAX_LINES: i64 = 64;

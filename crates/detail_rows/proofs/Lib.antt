@@ -1,16 +1,2 @@
 pub mod PackageLemmas
-pub mod TextLemmas
-pub mod LineLemmas
 pub mod ParentLemmas
-pub mod DeclaredLemmas
-pub mod ValueLemmas
-pub mod ColumnLemmas
-pub mod WordListLemmas
-pub mod ShownLemmas
-pub mod LineSizeLemmas
-pub mod LineValueLemmas
-pub mod LineRunLemmas
-pub mod LineTotalLemmas
-pub mod LineListLemmas
-pub mod LineParentLemmas
-pub mod LineMixedLemmas

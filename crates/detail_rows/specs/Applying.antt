@@ -1,12 +1,12 @@
 -- The streams of units for a detail table, applied to its text: its lines are known by their first two fields, the row's key and the number.
 use Rattle.std.specs.Prelude.{⊤, ℕ, List, [], ◌∷◌}
-use Rattle.schema_plan.specs.Dictionaries.{Project}
+use Rattle.schema_facts.specs.Dictionaries.{Project}
 use Rattle.stream_apply.specs.InTurn.{IsFaultAt}
 use Rattle.stream_apply.specs.declared.fault.ApplyFault.{ApplyFault}
 use Rattle.stream_apply.specs.declared.fault.ApplyFault.TheVariants as applying
 use Rattle.stream_apply.specs.declared.key_fields.KeyFields.TheVariants.{Two}
 use Rattle.detail_plan.specs.Kept.{Kept}
-use Rattle.detail_rows.specs.Lines.{detail_deleted_text, detail_inserted_text, detail_updated_text}
+use Rattle.detail_lines.specs.Lines.{detail_deleted_text, detail_inserted_text, detail_updated_text}
 use Rattle.detail_rows.specs.declared.applied.DetailApplyFault.{DetailApplyFault}
 use Rattle.detail_rows.specs.declared.applied.DetailApplyFault.TheVariants.{BadLine, DoubleKey, KeyExists, Memory, NoSuchKey}
 

@@ -1,33 +1,23 @@
 -- The packages of a detail table's lines: of all rows of its parent at a unit, or of rows that are listed, so many rows a package.
 use Rattle.std.specs.Prelude.{◌≡◌, ◌<◌, ◌≤◌, ℕ, ◌+◌, ◌-◌, ◌*◌, ◌/◌, ◌^◌, List, filter, flat_map, get_or, length, min}
 use Rattle.std.specs.List.{range_with_len, slice_range}
-use Rattle.cohort_sizes.specs.Births.{born_count, cohort_size, first_ordinal}
-use Rattle.schema_plan.specs.Dictionaries.{Project}
+use Rattle.cohort_sizes.specs.Births.{cohort_size, first_ordinal}
+use Rattle.schema_facts.specs.Dictionaries.{Project}
 use Rattle.life_intervals.specs.Generator.{generator_of, last_unit, table_of}
-use Rattle.life_intervals.specs.Intervals.{is_live, row_at}
+use Rattle.life_intervals.specs.Intervals.{is_live}
 use Rattle.detail_plan.specs.Kept.{Kept, KeepsRules}
-use Rattle.detail_rows.specs.declared.detail_lines.LineKind.{LineKind}
-use Rattle.detail_rows.specs.declared.detail_lines.LineKind.TheVariants.{Whole, KeysAlone}
+use Rattle.detail_lines.specs.declared.detail_lines.LineKind.{LineKind}
+use Rattle.detail_lines.specs.declared.detail_lines.LineKind.TheVariants.{Whole, KeysAlone}
 use Rattle.detail_rows.specs.declared.packer.PackedRows.{PackedRows}
 use Rattle.detail_rows.specs.declared.packer.PackedRows.TheVariants.{All, Born, Keys, Lines}
-use Rattle.detail_rows.specs.Lines.{key_lines_over, lines_over, parent_place}
+use Rattle.detail_lines.specs.Lines.{parent_place}
+use Rattle.detail_lines.specs.Rows.{born_by, row_text}
 
 -- ---- rows by their ordinals
 
--- the lines at a unit of the row of an ordinal, whole or with their keys alone
-abbrev pub row_text : Project → Kept → LineKind → ℕ → ℕ → List ℕ
-row_text plan kept Whole unit ordinal =
-    lines_over plan kept (row_at (generator_of plan) (parent_place plan kept.detail) unit ordinal)
-row_text plan kept KeysAlone unit ordinal =
-    key_lines_over plan kept (row_at (generator_of plan) (parent_place plan kept.detail) unit ordinal)
-
--- those of some ordinals
+-- the lines of the rows of some ordinals
 abbrev pub listed_text : Project → Kept → LineKind → ℕ → List ℕ → List ℕ
 listed_text plan kept kind unit ordinals = flat_map (row_text plan kept kind unit) ordinals
-
--- how many rows of the parent are born by a unit
-abbrev pub born_by : Project → Kept → ℕ → ℕ
-born_by plan kept unit = born_count (table_of plan (parent_place plan kept.detail)).births unit
 
 -- the ordinal of the first that is born at a unit, and how many are
 abbrev pub first_born : Project → Kept → ℕ → ℕ

@@ -4,8 +4,8 @@ ghost use Rattle.std.specs.Prelude.{◌≡◌, ◌<◌, ◌≤◌, ◌-◌, ◌*
 ghost use Rattle.detail_plan.specs.Kept.{KeepsRules};
 ghost use Rattle.detail_rows.specs.Packages.{AreTold, count_of, package_count, range_text, room_of, rows_in, text_numbered};
 
-use crate::detail_lines::LineKind;
 use crate::parent_lines::ParentLines;
+use detail_lines::LineKind;
 use detail_plan::DetailPlan;
 use line_pages::PageBuf;
 use out_of_memory::Memory;

@@ -5,12 +5,12 @@ ghost use Rattle.life_intervals.specs.Generator.{generator_of, last_unit};
 ghost use Rattle.life_intervals.specs.Intervals.{change_unit, is_live};
 ghost use Rattle.life_intervals.specs.Runs.{IsRun};
 ghost use Rattle.detail_plan.specs.Kept.{KeepsRules};
-ghost use Rattle.detail_rows.specs.Lines.{parent_place};
-ghost use Rattle.detail_rows.specs.Made.{AreMany, AreToldRows};
-ghost use Rattle.detail_rows.specs.Packages.{born_by, first_born, listed_text, living_from, size_born};
+ghost use Rattle.detail_lines.specs.Lines.{parent_place};
+ghost use Rattle.detail_lines.specs.Made.{AreMany, AreToldRows};
+ghost use Rattle.detail_lines.specs.Rows.{born_by};
+ghost use Rattle.detail_rows.specs.Packages.{first_born, listed_text, living_from, size_born};
 
-use crate::detail_lines::{DetailLines, LineKind, ParentAt};
-use crate::parent_row::ParentRows;
+use detail_lines::{DetailLines, LineBuf, LineKind, ParentAt, ParentRows};
 use detail_plan::DetailPlan;
 use life_intervals::{Cohort, MOST_ROWS, Rows, born, cohort};
 use line_pages::PageBuf;
@@ -31,7 +31,7 @@ pub(crate) struct ParentLines<'a> {
 }
 
 impl<'a> Model for ParentLines<'a> {
-    ghost use Rattle.detail_rows.specs.Made.{LinesOver};
+    ghost use Rattle.detail_lines.specs.Made.{LinesOver};
     ghost use Rattle.detail_rows.specs.Parent.{AreParentLines};
 
     ghost Value = { LinesOver };
@@ -161,6 +161,7 @@ impl<'a> ParentLines<'a> {
         kind: LineKind,
         t: u64,
         told: &ParentRows<'_>,
+        work: &mut LineBuf,
         page: &mut PageBuf,
         steps: &mut Steps<L>,
     )
@@ -178,7 +179,7 @@ impl<'a> ParentLines<'a> {
             unit: t,
         };
         self.lines()
-            .put_rows(kind, &at, told, told.ordinals.len(), page, steps);
+            .put_rows(kind, &at, told, told.ordinals.len(), work, page, steps);
     }
 
     /// Appends the lines at unit `t` of the rows of these ordinals. The rows are born by the unit, and no more than a run has.
@@ -187,6 +188,7 @@ impl<'a> ParentLines<'a> {
         kind: LineKind,
         t: u64,
         ordinals: &[u64],
+        work: &mut LineBuf,
         page: &mut PageBuf,
         steps: &mut Steps<L>,
     )
@@ -217,7 +219,7 @@ impl<'a> ParentLines<'a> {
             births,
             changes,
         };
-        self.put_told(kind, t, &told, page, steps);
+        self.put_told(kind, t, &told, work, page, steps);
     }
 
     /// Appends the lines at unit `t` of the rows of these ordinals, run by run. The rows are born by the unit.
@@ -235,10 +237,18 @@ impl<'a> ParentLines<'a> {
         ensures text { page.new ≡ record page.old { text = page.old.text ++ listed_text self.now.plan self.now.kept kind t ordinals.now } }
         ensures size { length (listed_text self.now.plan self.now.kept kind t ordinals.now) ≤ length ordinals.now * self.now.kept.reach }
     {
+        let mut work = LineBuf::new();
         let mut done = 0;
         while done < ordinals.len() {
             let some = (ordinals.len() - done).min(MOST_ROWS);
-            self.put_run(kind, t, &ordinals[done..done + some], page, steps);
+            self.put_run(
+                kind,
+                t,
+                &ordinals[done..done + some],
+                &mut work,
+                page,
+                steps,
+            );
             done += some;
         }
     }
@@ -250,6 +260,7 @@ impl<'a> ParentLines<'a> {
         t: u64,
         first: u64,
         some: usize,
+        work: &mut LineBuf,
         page: &mut PageBuf,
         steps: &mut Steps<L>,
     )
@@ -264,7 +275,7 @@ impl<'a> ParentLines<'a> {
         let all = &mut all_ordinals[..];
         let ordinals = &mut all[..some];
         let living = self.find_living(t, first, some, ordinals, steps);
-        self.put_run(LineKind::Whole, t, &ordinals[..living], page, steps);
+        self.put_run(LineKind::Whole, t, &ordinals[..living], work, page, steps);
     }
 
     /// Puts the ordinals of the living among `some` rows from ordinal `first` on at the beginning of a list of `some` places. Returns how many
@@ -349,10 +360,11 @@ impl<'a> ParentLines<'a> {
         ensures size { length (listed_text self.now.plan self.now.kept LineKind.Whole t (living_from self.now.plan self.now.kept t first count)) ≤ count * self.now.kept.reach }
     {
         let _most = self.born(t); // there are at most 2^40
+        let mut work = LineBuf::new();
         let mut done = 0;
         while done < count {
             let some = (count - done).min(MOST_ROWS as u64);
-            self.put_living_run(t, first + done, some as usize, page, steps);
+            self.put_living_run(t, first + done, some as usize, &mut work, page, steps);
             done += some;
         }
     }

@@ -2,7 +2,8 @@
 
 use dictionaries::read_dictionary;
 use schema_check::check;
-use schema_plan::{Dictionaries, Plan};
+use schema_facts::Dictionaries;
+use schema_plan::Plan;
 use schema_read::read_schema;
 use std::alloc::Global;
 use std::process::Abort;

@@ -4,7 +4,8 @@
 ghost use Rattle.std.specs.Prelude.{◌≡◌, ◌<◌, ◌≤◌, ℕ, get_or, length, true};
 ghost use Rattle.life_intervals.specs.Generator.{last_unit};
 ghost use Rattle.detail_plan.specs.Kept.{KeepsRules};
-ghost use Rattle.detail_rows.specs.Packages.{AreTold, born_by};
+ghost use Rattle.detail_lines.specs.Rows.{born_by};
+ghost use Rattle.detail_rows.specs.Packages.{AreTold};
 
 use crate::fixtures::{BILLS, SALES, plan_of, word_lists};
 use detail_plan::{DetailPlan, check_detail, read_detail};

@@ -2,7 +2,8 @@
 
 use crate::fixtures::{SALES, joined, numbered, plan_of};
 use detail_plan::{DetailFault, check_detail, read_detail};
-use schema_plan::{Dictionaries, Plan};
+use schema_facts::Dictionaries;
+use schema_plan::Plan;
 use std::alloc::Global;
 use std::process::Abort;
 

@@ -3,7 +3,8 @@
 use crate::fixtures::{BILLS, SALES, joined, numbered, plan_of, word_lists};
 use detail_plan::{DetailFault, check_detail, detail_citations, read_detail};
 use schema_check::check;
-use schema_plan::{Dictionaries, Plan};
+use schema_facts::Dictionaries;
+use schema_plan::Plan;
 use schema_read::read_schema;
 use std::alloc::Global;
 use std::process::Abort;

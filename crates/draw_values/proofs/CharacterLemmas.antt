@@ -10,7 +10,7 @@ use Rattle.std.proofs.lemmas.List.FromFn.{map-range_with_len_more}
 use Rattle.dictionaries.specs.WordList.{WordList}
 use Rattle.row_text.specs.Fields.{escaped, escaped_text}
 use Rattle.schema_plan.specs.ReadyWords.{written_words}
-use Rattle.schema_plan.proofs.Lists.{map-map}
+use Rattle.schema_facts.proofs.Lists.{map-map}
 use Rattle.draw_values.specs.ReadyValues.{chosen_texts}
 use Rattle.draw_values.specs.Values.{Draws, chosen_group, drawn_characters, drawn_words}
 use std.Path.{fun_ext}

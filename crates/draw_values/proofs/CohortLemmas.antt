@@ -2,7 +2,7 @@
 use Rattle.std.proofs.Common.{◌≡◌, ◌<◌, ℕ, Bool, true, false, if◌then◌else◌, List, get_or, length, ap, subst, sym, ◌∙◌}
 use Rattle.philox_seeds.specs.SeedTree.{column_seed, table_seed, unit_seed}
 use Rattle.schema_plan.specs.declared.ready.ReadyColumn.{ReadyColumn}
-use Rattle.schema_plan.specs.Layout.{Layout, table_at}
+use Rattle.schema_facts.specs.Layout.{Layout, table_at}
 use Rattle.schema_plan.specs.Ready.{ready_columns}
 use Rattle.draw_values.specs.declared.cohort_values.Seeds.{Seeds}
 use Rattle.draw_values.specs.declared.values.RowAt.{RowAt}

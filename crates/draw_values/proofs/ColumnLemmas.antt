@@ -9,8 +9,8 @@ use Rattle.weight_tables.proofs.SelectionLemmas.{Selects-selected}
 use Rattle.row_text.specs.Fields.{escaped_text}
 use Rattle.schema_plan.specs.declared.ready.ReadyColumn.{ReadyColumn}
 use Rattle.schema_plan.specs.declared.ready.ReadyLeaf.{ReadyLeaf}
-use Rattle.schema_plan.specs.FieldSizes.{leaf_size, size_of}
-use Rattle.schema_plan.specs.Layout.{LeafLayout, int_leaf, fixed_leaf, date_leaf, pick_leaf, skew_leaf, dict_leaf, words_leaf, chars_leaf, uuid_leaf, KindLayout, key_kind, born_kind, changed_kind, leaf_kind, template_kind, case_kind, reference_kind, lookup_kind, ColumnLayout, Layout, TableLayout, column_at, no_column, table_at, list_kind, unit_date_kind, after_kind, sum_kind, product_kind}
+use Rattle.schema_facts.specs.FieldSizes.{leaf_size, size_of}
+use Rattle.schema_facts.specs.Layout.{LeafLayout, int_leaf, fixed_leaf, date_leaf, pick_leaf, skew_leaf, dict_leaf, words_leaf, chars_leaf, uuid_leaf, KindLayout, key_kind, born_kind, changed_kind, leaf_kind, template_kind, case_kind, reference_kind, lookup_kind, ColumnLayout, Layout, TableLayout, column_at, no_column, table_at, list_kind, unit_date_kind, after_kind, sum_kind, product_kind}
 use Rattle.schema_plan.specs.Limits.{IsCase, IsKindInLimits, IsLeafInLimits, IsPickOf}
 use Rattle.schema_plan.specs.Ready.{ready_column, ready_columns, ready_kind, ready_leaf}
 use Rattle.draw_values.specs.declared.values.RowAt.{RowAt}

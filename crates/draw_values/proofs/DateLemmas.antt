@@ -8,7 +8,7 @@ use Rattle.jiff_core.specs.declared.civil.date.Date.{Date}
 use Rattle.jiff_core.proofs.CalendarLemmas.{day_count-day_of_year, day_count-later_year, day_count-lt_year, day_of_year_bound, days_from_civil-day_count, days_of_months-zero}
 use Rattle.jiff_core.proofs.MarchLemmas.{day_count-early}
 use Rattle.jiff_core.proofs.SignedLemmas.{signed_arith}
-use Rattle.schema_plan.specs.Counts.{count}
+use Rattle.schema_facts.specs.Counts.{count}
 use Rattle.draw_values.specs.Dates.{Found, date_digits, date_text, month_from, year_from}
 use Rattle.line_pages.specs.Digits.{last_digits}
 use Rattle.draw_values.proofs.DigitLemmas.{length-last_digits}

@@ -6,7 +6,7 @@ use Rattle.std.proofs.lemmas.Int.{ints}
 use Rattle.row_text.specs.Fields.{field_text, escaped_text}
 use Rattle.schema_plan.specs.declared.ready.ReadyColumn.{ReadyColumn}
 use Rattle.schema_plan.specs.declared.ready.ReadyKind.{ReadyKind}
-use Rattle.schema_plan.specs.Layout.{ColumnLayout, KindLayout, Layout, key_kind, born_kind, changed_kind, leaf_kind, template_kind, case_kind, reference_kind, lookup_kind, list_kind, unit_date_kind, after_kind, sum_kind, product_kind, column_at, table_at}
+use Rattle.schema_facts.specs.Layout.{ColumnLayout, KindLayout, Layout, key_kind, born_kind, changed_kind, leaf_kind, template_kind, case_kind, reference_kind, lookup_kind, list_kind, unit_date_kind, after_kind, sum_kind, product_kind, column_at, table_at}
 use Rattle.schema_plan.specs.Limits.{IsDateRange, IsTableInLimits, IsUnitDateInLimits}
 use Rattle.schema_plan.specs.Ready.{ready_column, ready_columns, ready_kind}
 use Rattle.draw_values.specs.declared.values.RowAt.{RowAt}

@@ -7,7 +7,7 @@ use Rattle.dictionaries.specs.WordList.{WordList}
 use Rattle.line_pages.proofs.RowLemmas.{length-texts-next, texts-next}
 use Rattle.schema_plan.specs.declared.ready.ReadyLeaf.{ReadyLeaf}
 use Rattle.schema_plan.specs.declared.ready.ReadyLeaf.TheVariants as leaf
-use Rattle.schema_plan.specs.FieldSizes.{greatest_by, joined_size}
+use Rattle.schema_facts.specs.FieldSizes.{greatest_by, joined_size}
 use Rattle.draw_values.specs.Items.{item_count, item_place, item_text, item_texts, space_before}
 use Rattle.draw_values.specs.ReadyValues.{ready_size, ready_text}
 use Rattle.draw_values.specs.Runs.{is_itemized_leaf}

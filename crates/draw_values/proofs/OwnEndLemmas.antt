@@ -8,18 +8,18 @@ use Rattle.std.proofs.Math.Nat.{mul-div-le, mul-le-mul_left}
 use Rattle.weight_tables.specs.Harmonic.{harmonic_weights}
 use Rattle.weight_tables.proofs.HarmonicLemmas.{All-harmonic_weights, length-harmonic_weights}
 use Rattle.weight_tables.proofs.PrefixSumLemmas.{sum-cons}
-use Rattle.schema_plan.specs.declared.column_facts.ColumnFacts.{ColumnFacts}
-use Rattle.schema_plan.specs.declared.days.Days.{Days}
-use Rattle.schema_plan.specs.declared.numbers.Numbers.{Numbers}
-use Rattle.schema_plan.specs.Choices.{choices}
-use Rattle.schema_plan.specs.ColumnFacts.{field_facts}
-use Rattle.schema_plan.specs.Counts.{count}
-use Rattle.schema_plan.specs.Days.{days_between, days_in, days_of_leaf, in_calendar}
-use Rattle.schema_plan.specs.Ends.{IsBetween}
-use Rattle.schema_plan.specs.Layout.{Layout, KindLayout, LeafLayout, born_kind, case_kind, changed_kind, chars_leaf, column_at, date_leaf, dict_leaf, fixed_leaf, int_leaf, key_kind, leaf_kind, list_kind, layout_of, lookup_kind, after_kind, pick_leaf, product_kind, reference_kind, skew_leaf, sum_kind, table_at, table_layout, template_kind, unit_date_kind, uuid_leaf, words_leaf}
+use Rattle.schema_facts.specs.declared.column_facts.ColumnFacts.{ColumnFacts}
+use Rattle.schema_facts.specs.declared.days.Days.{Days}
+use Rattle.schema_facts.specs.declared.numbers.Numbers.{Numbers}
+use Rattle.schema_facts.specs.Choices.{choices}
+use Rattle.schema_facts.specs.ColumnFacts.{field_facts}
+use Rattle.schema_facts.specs.Counts.{count}
+use Rattle.schema_facts.specs.Days.{days_between, days_in, days_of_leaf, in_calendar}
+use Rattle.schema_facts.specs.Ends.{IsBetween}
+use Rattle.schema_facts.specs.Layout.{Layout, KindLayout, LeafLayout, born_kind, case_kind, changed_kind, chars_leaf, column_at, date_leaf, dict_leaf, fixed_leaf, int_leaf, key_kind, leaf_kind, list_kind, layout_of, lookup_kind, after_kind, pick_leaf, product_kind, reference_kind, skew_leaf, sum_kind, table_at, table_layout, template_kind, unit_date_kind, uuid_leaf, words_leaf}
 use Rattle.schema_plan.specs.Limits.{IsDateRange, IsKindInLimits, IsLeafInLimits, IsTableInLimits, IsUnitDateInLimits}
-use Rattle.schema_plan.specs.Numbers.{drawn_numbers, numbers_of_leaf}
-use Rattle.schema_plan.proofs.FieldFactsLemmas.{IsColumnOf, field_facts-kind}
+use Rattle.schema_facts.specs.Numbers.{drawn_numbers, numbers_of_leaf}
+use Rattle.schema_facts.proofs.FieldFactsLemmas.{IsColumnOf, field_facts-kind}
 use Rattle.draw_values.proofs.GroupLemmas.{group_within}
 use Rattle.draw_values.specs.declared.values.RowAt.{RowAt}
 use Rattle.draw_values.specs.CohortValues.{IsDayOf, IsNumberOf, ValuesOf}

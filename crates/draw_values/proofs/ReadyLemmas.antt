@@ -9,8 +9,8 @@ use Rattle.dictionaries.specs.WordList.{WordList}
 use Rattle.weight_tables.specs.Harmonic.{harmonic_weights}
 use Rattle.weight_tables.proofs.HarmonicLemmas.{length-harmonic_weights}
 use Rattle.row_text.specs.Fields.{escaped_text}
-use Rattle.schema_plan.specs.FieldSizes.{entry_size, greatest_by, joined_size, leaf_size, written_size}
-use Rattle.schema_plan.specs.Layout.{LeafLayout, int_leaf, fixed_leaf, date_leaf, pick_leaf, skew_leaf, dict_leaf, words_leaf, chars_leaf, uuid_leaf}
+use Rattle.schema_facts.specs.FieldSizes.{entry_size, greatest_by, joined_size, leaf_size, written_size}
+use Rattle.schema_facts.specs.Layout.{LeafLayout, int_leaf, fixed_leaf, date_leaf, pick_leaf, skew_leaf, dict_leaf, words_leaf, chars_leaf, uuid_leaf}
 use Rattle.schema_plan.specs.Limits.{IsLeafInLimits}
 use Rattle.schema_plan.specs.Ready.{ready_leaf}
 use Rattle.schema_plan.specs.ReadyWords.{written_words}

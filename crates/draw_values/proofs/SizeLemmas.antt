@@ -1,7 +1,7 @@
 -- The greatest of a number for each item.
 use Rattle.std.proofs.Common.{◌<◌, ◌≤◌, ℕ, zero, suc, max, List, [], ◌∷◌, get_or, length, arith}
 use Rattle.std.specs.List.{fold}
-use Rattle.schema_plan.specs.FieldSizes.{greatest_by}
+use Rattle.schema_facts.specs.FieldSizes.{greatest_by}
 
 from_most : {A : Type 0} (number : A → ℕ) (most : ℕ) (xs : List A) → most ≤ fold (λ m x. max m (number x)) most xs
 from_most number most [] = omega arith

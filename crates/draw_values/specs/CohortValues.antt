@@ -2,14 +2,14 @@
 use Rattle.std.specs.Prelude.{◌≡◌, ◌<◌, ◌≤◌, length, ℕ, ℤ, List, Bool, Option, Some, None}
 use Rattle.philox_seeds.specs.SeedTree.{table_seed}
 use Rattle.schema_plan.specs.declared.ready.ReadyColumn.{ReadyColumn}
-use Rattle.schema_plan.specs.declared.column_facts.ColumnFacts.{ColumnFacts}
-use Rattle.schema_plan.specs.declared.days.Days.{Days}
-use Rattle.schema_plan.specs.declared.numbers.Numbers.{Numbers}
-use Rattle.schema_plan.specs.ColumnFacts.{field_facts}
-use Rattle.schema_plan.specs.Ends.{IsShown, IsWithin}
-use Rattle.schema_plan.specs.Layout.{column_at, layout_of, table_at, TableLayout}
+use Rattle.schema_facts.specs.declared.column_facts.ColumnFacts.{ColumnFacts}
+use Rattle.schema_facts.specs.declared.days.Days.{Days}
+use Rattle.schema_facts.specs.declared.numbers.Numbers.{Numbers}
+use Rattle.schema_facts.specs.ColumnFacts.{field_facts}
+use Rattle.schema_facts.specs.Ends.{IsShown, IsWithin}
+use Rattle.schema_facts.specs.Layout.{column_at, layout_of, table_at, TableLayout}
 use Rattle.schema_plan.specs.Limits.{IsTableInLimits}
-use Rattle.schema_plan.specs.Dictionaries.{Project}
+use Rattle.schema_facts.specs.Dictionaries.{Project}
 use Rattle.schema_plan.specs.Ready.{ready_columns}
 use Rattle.draw_values.specs.declared.cohort_values.Seeds.{Seeds}
 use Rattle.draw_values.specs.declared.cohort_values.Seeds.TheVariants as seeds

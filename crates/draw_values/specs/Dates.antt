@@ -1,7 +1,7 @@
 -- Dates of the years 1 to 9999 of the proleptic Gregorian calendar, by their day numbers: 1970-01-01 is day 0.
 use Rattle.std.specs.Prelude.{ℕ, zero, suc, ℤ, pos, ◌+◌, ◌-◌, ◌+ℤ◌, List, ◌∷◌, ◌++◌, if◌then◌else◌, nat_lt}
 use Rattle.jiff_core.specs.Calendar.{days_in_month, days_in_year}
-use Rattle.schema_plan.specs.Counts.{count}
+use Rattle.schema_facts.specs.Counts.{count}
 use Rattle.line_pages.specs.Digits.{last_digits}
 
 -- a year, month or day, from 1, and the days that are left, from 0

@@ -10,8 +10,8 @@ use Rattle.schema_plan.specs.declared.ready.ReadyLeaf.{ReadyLeaf}
 use Rattle.schema_plan.specs.declared.ready.ReadyList.{ReadyList}
 use Rattle.schema_plan.specs.declared.ready.ReadyUnitDate.{ReadyUnitDate}
 use Rattle.schema_plan.specs.declared.ready.ReadyLeaf.TheVariants as leaf
-use Rattle.schema_plan.specs.Choices.{choices}
-use Rattle.schema_plan.specs.FieldSizes.{greatest_by, joined_size}
+use Rattle.schema_facts.specs.Choices.{choices}
+use Rattle.schema_facts.specs.FieldSizes.{greatest_by, joined_size}
 use Rattle.schema_plan.specs.Limits.{IsDateRange, IsRange}
 use Rattle.draw_values.specs.declared.leaf_numbers.Number.{Number}
 use Rattle.draw_values.specs.declared.values.RowAt.{RowAt}

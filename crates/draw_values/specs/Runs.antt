@@ -8,8 +8,8 @@ use Rattle.schema_plan.specs.declared.ready.ReadyKind.{ReadyKind}
 use Rattle.schema_plan.specs.declared.ready.ReadyKind.TheVariants as kind
 use Rattle.schema_plan.specs.declared.ready.ReadyLeaf.{ReadyLeaf}
 use Rattle.schema_plan.specs.declared.ready.ReadyLeaf.TheVariants as leaf
-use Rattle.schema_plan.specs.Dictionaries.{Project}
-use Rattle.schema_plan.specs.Layout.{column_at, layout_of, table_at}
+use Rattle.schema_facts.specs.Dictionaries.{Project}
+use Rattle.schema_facts.specs.Layout.{column_at, layout_of, table_at}
 use Rattle.schema_plan.specs.Ready.{ready_column}
 use Rattle.draw_values.specs.declared.leaf_numbers.Number.{Number}
 use Rattle.draw_values.specs.declared.runs.RunRows.{RunRows}

@@ -9,9 +9,9 @@ use Rattle.philox_seeds.specs.SeedTree.{field_draw}
 use Rattle.weight_tables.specs.Harmonic.{harmonic_weights}
 use Rattle.weight_tables.specs.Weights.{selected}
 use Rattle.row_text.specs.Fields.{escaped_text}
-use Rattle.schema_plan.specs.Choices.{choices}
-use Rattle.schema_plan.specs.FieldSizes.{size_of}
-use Rattle.schema_plan.specs.Layout.{LeafLayout, int_leaf, fixed_leaf, date_leaf, pick_leaf, skew_leaf, dict_leaf, words_leaf, chars_leaf, uuid_leaf, KindLayout, key_kind, born_kind, changed_kind, leaf_kind, template_kind, case_kind, reference_kind, lookup_kind, ColumnLayout, Layout, table_at, column_at, list_kind, unit_date_kind, after_kind, sum_kind, product_kind}
+use Rattle.schema_facts.specs.Choices.{choices}
+use Rattle.schema_facts.specs.FieldSizes.{size_of}
+use Rattle.schema_facts.specs.Layout.{LeafLayout, int_leaf, fixed_leaf, date_leaf, pick_leaf, skew_leaf, dict_leaf, words_leaf, chars_leaf, uuid_leaf, KindLayout, key_kind, born_kind, changed_kind, leaf_kind, template_kind, case_kind, reference_kind, lookup_kind, ColumnLayout, Layout, table_at, column_at, list_kind, unit_date_kind, after_kind, sum_kind, product_kind}
 use Rattle.draw_values.specs.declared.leaf_numbers.Number.{Number}
 use Rattle.draw_values.specs.declared.values.RowAt.{RowAt}
 use Rattle.draw_values.specs.declared.values.Put.{Put}

@@ -2,7 +2,7 @@
 
 ghost use Rattle.std.specs.Prelude.{◌≡◌, ◌≤◌, ◌+◌, ◌*◌, ◌++◌, length};
 ghost use Rattle.philox_seeds.specs.SeedTree.{draw as draw_of};
-ghost use Rattle.schema_plan.specs.FieldSizes.{greatest_by};
+ghost use Rattle.schema_facts.specs.FieldSizes.{greatest_by};
 ghost use Rattle.draw_values.specs.ReadyValues.{chosen_texts};
 
 use crate::weighted::put_entry;

@@ -4,9 +4,9 @@
 ghost use Rattle.std.specs.Prelude.{◌≡◌, ◌<◌, ◌≤◌, ℕ, ◌+◌, ◌++◌, IfSome, true, length, map, slice_index};
 ghost use Rattle.philox_seeds.specs.SeedTree.{unit_seed as unit_seed_of};
 ghost use Rattle.row_text.specs.Fields.{field_text};
-ghost use Rattle.schema_plan.specs.Choices.{choices};
-ghost use Rattle.schema_plan.specs.Ends.{IsBetween};
-ghost use Rattle.schema_plan.specs.Layout.{column_at, layout_of};
+ghost use Rattle.schema_facts.specs.Choices.{choices};
+ghost use Rattle.schema_facts.specs.Ends.{IsBetween};
+ghost use Rattle.schema_facts.specs.Layout.{column_at, layout_of};
 ghost use Rattle.schema_plan.specs.Limits.{IsAfterRange};
 ghost use Rattle.draw_values.specs.CohortValues.{IsDayOf, IsNumberOf, day_for, facts_for, is_null_for, number_for, table_for, row_for, value_size_for, value_for};
 ghost use Rattle.draw_values.specs.ReadyValues.{row_draws};

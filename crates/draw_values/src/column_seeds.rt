@@ -2,7 +2,7 @@
 
 ghost use Rattle.std.specs.Prelude.{◌≡◌, ◌<◌, ◌≤◌, ◌+◌, IfOk, length};
 ghost use Rattle.philox_seeds.specs.SeedTree.{column_seed as column_seed_of, table_seed as table_seed_of, unit_seed as unit_seed_of};
-ghost use Rattle.schema_plan.specs.Layout.{layout_of};
+ghost use Rattle.schema_facts.specs.Layout.{layout_of};
 ghost use Rattle.draw_values.specs.ColumnSeeds.{AreUnitSeeds};
 
 use out_of_memory::Memory;

@@ -2,7 +2,7 @@
 
 ghost use Rattle.std.specs.Prelude.{◌≡◌, ◌<◌, ◌≤◌, ◌+◌, ◌++◌, [], All, IfSome, decimal, length, option_map, unwrap_or};
 ghost use Rattle.philox_seeds.specs.SeedTree.{draw as draw_of};
-ghost use Rattle.schema_plan.specs.FieldSizes.{greatest_by};
+ghost use Rattle.schema_facts.specs.FieldSizes.{greatest_by};
 ghost use Rattle.draw_values.specs.Dates.{date_text};
 ghost use Rattle.draw_values.specs.ReadyValues.{AreUnits, HasDay, IsReady, IsReadyKind, IsReadyList, IsReadyPick, IsUnitDay, chooser_of, entry_count, ready_branch, ready_day, ready_entry_in_turn, ready_field, ready_held_entry, ready_kind_size, ready_size, ready_text, row_draws};
 ghost use Rattle.draw_values.specs.Values.{is_null, put_of};

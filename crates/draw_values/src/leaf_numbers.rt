@@ -2,8 +2,8 @@
 
 ghost use Rattle.std.specs.Prelude.{◌≡◌};
 ghost use Rattle.philox_seeds.specs.SeedTree.{draw as draw_of};
-ghost use Rattle.schema_plan.specs.Choices.{choices};
-ghost use Rattle.schema_plan.specs.Ends.{IsBetween};
+ghost use Rattle.schema_facts.specs.Choices.{choices};
+ghost use Rattle.schema_facts.specs.Ends.{IsBetween};
 ghost use Rattle.schema_plan.specs.Limits.{IsAfterRange};
 ghost use Rattle.draw_values.specs.ReadyValues.{HasDay, IsReady, ready_leaf_day, ready_leaf_number, ready_own_day, ready_own_number, row_draws};
 ghost use Rattle.draw_values.specs.Runs.{IsReadyDrawn};

@@ -46,6 +46,7 @@ pub use items::ItemizedField;
 pub use leaf_numbers::{Number, days_after, leaf_day, leaf_number};
 pub use leaves::put_leaf;
 pub use run_column::RunColumn;
+pub use run_loops::{fill_kept, put_run_seeds};
 pub use run_numbers::{fill_dates_of, fill_numbers};
 pub use runs::{RUN_LIMIT, RunNumbers, RunRows};
 pub use values::{Put, RowAt, put_value};

@@ -3,7 +3,7 @@
 ghost use Rattle.std.specs.Prelude.{◌≡◌, ◌≤◌, ◌+◌, ◌<◌, ◌^◌, [], ◌∷◌, ◌++◌, length, pos, unsigned_abs, ◌-ℤ◌, ◌<ℤ◌, ◌≤ℤ◌};
 ghost use Rattle.std.specs.Fmt.{signed_decimal};
 ghost use Rattle.line_pages.specs.Pieces.{piece_text};
-ghost use Rattle.schema_plan.specs.Choices.{choices as choices_of};
+ghost use Rattle.schema_facts.specs.Choices.{choices as choices_of};
 ghost use Rattle.draw_values.specs.Values.{chosen};
 
 use fixed_divisors::FixedDivisor;

@@ -5,7 +5,7 @@ ghost use Rattle.std.specs.List.{list_all};
 ghost use Rattle.philox_seeds.specs.SeedTree.{draw as draw_of};
 ghost use Rattle.line_pages.specs.Pieces.{piece_text};
 ghost use Rattle.row_text.specs.Fields.{field_text};
-ghost use Rattle.schema_plan.specs.Layout.{layout_of};
+ghost use Rattle.schema_facts.specs.Layout.{layout_of};
 ghost use Rattle.draw_values.specs.Cases.{branch_text, case_text, entry_drawn};
 ghost use Rattle.draw_values.specs.ReadyValues.{IsReady, IsReadyPick, entry_count, ready_branch};
 ghost use Rattle.draw_values.specs.Runs.{AreOfLength, AreRunRows, IsRunColumn, is_case, is_short_leaf, is_short_text, null_text, ready_at, run_field, run_row, run_seed, text_by, with_behind};

@@ -4,7 +4,7 @@ ghost use Rattle.std.specs.Prelude.{◌≡◌, ℕ, ◌<◌, ◌≤◌, ◌^◌,
 ghost use Rattle.philox_seeds.specs.SeedTree.{table_seed as table_seed_of};
 ghost use Rattle.line_pages.specs.Pieces.{piece_text};
 ghost use Rattle.row_text.specs.Fields.{field_text};
-ghost use Rattle.schema_plan.specs.Layout.{layout_of, table_at};
+ghost use Rattle.schema_facts.specs.Layout.{layout_of, table_at};
 ghost use Rattle.draw_values.specs.Runs.{AreRunRows, IsRunColumn, chooser_seed, is_null_in, is_short_alone, null_text, ready_at, run_column, run_row, run_field};
 ghost use Rattle.draw_values.specs.ReadyValues.{chooser_of};
 ghost use Rattle.draw_values.specs.Values.{size_at, value_at};

@@ -3,7 +3,7 @@
 ghost use Rattle.std.specs.Prelude.{◌≡◌, ℕ, ◌<◌, ◌≤◌, ◌+◌, ◌++◌, IfSome, slice_index, length, max, slice_index_or, true};
 ghost use Rattle.philox_seeds.specs.SeedTree.{draw as draw_of};
 ghost use Rattle.row_text.specs.Fields.{field_text};
-ghost use Rattle.schema_plan.specs.Layout.{layout_of};
+ghost use Rattle.schema_facts.specs.Layout.{layout_of};
 ghost use Rattle.draw_values.specs.Items.{field_behind, item_count, itemized_by, itemized_field, items_or_null, kind_count, kind_items};
 ghost use Rattle.draw_values.specs.ReadyValues.{IsReady, ready_kind_size, ready_size};
 ghost use Rattle.draw_values.specs.Runs.{AreOfLength, AreRunRows, IsReadyDrawn, IsRunColumn, is_itemized, is_itemized_leaf, items_of, kept_texts, run_row, run_seed, with_behind};

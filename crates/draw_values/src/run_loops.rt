@@ -38,12 +38,7 @@ pub(crate) fn put_row_seeds(ordinals: &[u64], seeds: &mut [u64])
 
 /// Finds the seeds of a run's rows in a column with these seeds. `changes` tells if the fields are drawn anew when a row changes.
 #[inline(always)]
-pub(crate) fn put_run_seeds(
-    column: &ColumnSeeds,
-    changes: bool,
-    rows: RunRows<'_>,
-    seeds: &mut [u64],
-)
+pub fn put_run_seeds(column: &ColumnSeeds, changes: bool, rows: RunRows<'_>, seeds: &mut [u64])
     requires { AreOfLength (length seeds.old) rows }
     ensures { (i : ℕ) → i < length seeds.old → slice_index seeds.new i ≡ run_seed column.now changes rows.entry i }
 {
@@ -95,7 +90,7 @@ pub(crate) fn choose_words(words: &ReadyWords, draws: &mut [u64])
 
 /// Replaces each piece with the kept piece that the number of the same place selects.
 #[inline(always)]
-pub(crate) fn fill_kept(kept: &[Piece], numbers: &[u64], pieces: &mut [Piece])
+pub fn fill_kept(kept: &[Piece], numbers: &[u64], pieces: &mut [Piece])
     requires lengths { length numbers.now ≡ length pieces.old }
     requires within { (i : ℕ) → i < length numbers.now → slice_index numbers.now i < length kept.now }
     ensures { (i : ℕ) → i < length pieces.old → slice_index_or (map piece_text pieces.new) i [] ≡ slice_index_or (map piece_text kept.now) (slice_index numbers.now i) [] }

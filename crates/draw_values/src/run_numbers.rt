@@ -4,10 +4,10 @@
 ghost use Rattle.std.specs.Prelude.{◌≡◌, ℕ, ◌<◌, ◌≤◌, ◌-◌, ◌*◌, ◌^◌, [], false, IfSome, length, map, None, pos, slice_index, slice_index_or, Some, sum, true, unsigned_abs, ◌+ℤ◌, ◌-ℤ◌, ◌<ℤ◌, ◌≤ℤ◌};
 ghost use Rattle.philox_seeds.specs.SeedTree.{draw as draw_of};
 ghost use Rattle.line_pages.specs.Pieces.{piece_text};
-ghost use Rattle.schema_plan.specs.Choices.{choices as choices_of};
-ghost use Rattle.schema_plan.specs.ColumnFacts.{field_facts};
-ghost use Rattle.schema_plan.specs.Ends.{IsBetween, IsInCalendar};
-ghost use Rattle.schema_plan.specs.Layout.{layout_of};
+ghost use Rattle.schema_facts.specs.Choices.{choices as choices_of};
+ghost use Rattle.schema_facts.specs.ColumnFacts.{field_facts};
+ghost use Rattle.schema_facts.specs.Ends.{IsBetween, IsInCalendar};
+ghost use Rattle.schema_facts.specs.Layout.{layout_of};
 ghost use Rattle.schema_plan.specs.Limits.{IsAfterRange, IsDateRange};
 ghost use Rattle.draw_values.specs.CohortValues.{IsDayOf, IsNumberOf};
 ghost use Rattle.draw_values.specs.Dates.{date_text};

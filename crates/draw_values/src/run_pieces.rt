@@ -4,7 +4,7 @@ ghost use Rattle.std.specs.Prelude.{◌≡◌, ℕ, ◌<◌, ◌≤◌, ◌+◌,
 ghost use Rattle.std.specs.Fmt.{signed_decimal};
 ghost use Rattle.std.specs.List.{list_all};
 ghost use Rattle.line_pages.specs.Pieces.{piece_text};
-ghost use Rattle.schema_plan.specs.Choices.{choices as choices_of};
+ghost use Rattle.schema_facts.specs.Choices.{choices as choices_of};
 ghost use Rattle.draw_values.specs.Dates.{date_text};
 ghost use Rattle.draw_values.specs.Digits.{signed_pointed};
 ghost use Rattle.draw_values.specs.ReadyValues.{IsReady, IsReadyList, ready_entry_in_turn};

@@ -2,7 +2,7 @@
 
 ghost use Rattle.std.specs.Prelude.{◌≡◌, ◌<◌, ◌≤◌, ◌+◌, ◌++◌, true, length};
 ghost use Rattle.row_text.specs.Fields.{field_text};
-ghost use Rattle.schema_plan.specs.Layout.{column_at, layout_of, table_at};
+ghost use Rattle.schema_facts.specs.Layout.{column_at, layout_of, table_at};
 ghost use Rattle.draw_values.specs.ReadyValues.{row_draws};
 ghost use Rattle.draw_values.specs.Values.{draws_at, is_own, put_of, size_at, value_at, written};
 

@@ -1,7 +1,7 @@
 //! Groups that a draw chooses by their weights, and what they stand for.
 
 ghost use Rattle.std.specs.Prelude.{◌≡◌, ◌<◌, ◌≤◌, ◌+◌, ◌-◌, ◌^◌, [], ◌++◌, length, sum, slice_index_or, pos, ◌+ℤ◌, ◌<ℤ◌};
-ghost use Rattle.schema_plan.specs.FieldSizes.{greatest_by};
+ghost use Rattle.schema_facts.specs.FieldSizes.{greatest_by};
 ghost use Rattle.draw_values.specs.Values.{chosen_group};
 
 use fixed_divisors::FixedDivisor;

@@ -2,7 +2,7 @@
 
 ghost use Rattle.std.specs.Prelude.{◌≡◌, ◌<◌, ◌≤◌, ◌+◌, ◌==◌, ◌++◌, ◌∷◌, [], if◌then◌else◌, length, min, slice_index_or};
 ghost use Rattle.philox_seeds.specs.SeedTree.{draw as draw_of};
-ghost use Rattle.schema_plan.specs.FieldSizes.{greatest_by, joined_size};
+ghost use Rattle.schema_facts.specs.FieldSizes.{greatest_by, joined_size};
 ghost use Rattle.draw_values.specs.Values.{chosen_group, drawn_words};
 
 use line_pages::{PageBuf, Piece};

@@ -2,8 +2,9 @@
 
 use crate::grouped::put_grouped;
 use crate::rules::{Broken, put_name};
+use schema_facts::{TableFacts, place_of_table};
 use schema_model::{Column, Kind, Leaf, Part, Parts, Schema, Table, Text, Window};
-use schema_plan::{TableFacts, cohort_size, place_of_table};
+use schema_plan::cohort_size;
 use std::alloc::AllocError;
 
 /// The greatest last unit.

@@ -3,8 +3,8 @@
 use crate::lines::{Spot, line_of, put_line};
 use crate::numbers::put_numbers;
 use schema_check::is_name;
+use schema_facts::TableFacts;
 use schema_model::{Column, Schema, Table, Text};
-use schema_plan::TableFacts;
 use schema_read::Place;
 use std::alloc::AllocError;
 

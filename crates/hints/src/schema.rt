@@ -7,8 +7,9 @@ use dictionaries::read_dictionary;
 use pd_outside::{Library, read_whole};
 use request_words::Request;
 use schema_check::{CheckFault, check, citations};
+use schema_facts::{Dictionaries, MAX_ITEMS, NO_FACTS, TableFacts, fill_facts};
 use schema_model::{Schema, Text, Texts};
-use schema_plan::{Dictionaries, MAX_ITEMS, NO_FACTS, Plan, TableFacts, fill_facts};
+use schema_plan::Plan;
 use schema_read::{ReadSchemaFault, read_schema};
 use std::alloc::{AllocError, Global};
 

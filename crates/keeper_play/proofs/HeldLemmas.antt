@@ -7,11 +7,11 @@ use Rattle.std.proofs.lemmas.List.{get_or-map, length-map}
 use Rattle.std.proofs.lemmas.List.Elements.{All-cons, All-from_recursion, All-map}
 use Rattle.cohort_sizes.specs.Births.{Births, birth, born_count, first_ordinal, index_at}
 use Rattle.cohort_sizes.proofs.CohortLemmas.{LiesIn-birth, birth-later, birth-le, born_count-le, index_at-below}
-use Rattle.schema_plan.specs.Dictionaries.{Project}
-use Rattle.schema_plan.specs.Layout.{TableLayout, table_at}
+use Rattle.schema_facts.specs.Dictionaries.{Project}
+use Rattle.schema_facts.specs.Layout.{TableLayout, table_at}
 use Rattle.schema_plan.specs.Limits.{IsInLimits}
-use Rattle.schema_plan.specs.Lineage.{sure_life}
-use Rattle.schema_plan.specs.References.{IsReferenceInLimits, Reference, references_of}
+use Rattle.schema_facts.specs.Lineage.{sure_life}
+use Rattle.schema_facts.specs.References.{IsReferenceInLimits, Reference, references_of}
 use Rattle.life_intervals.specs.Generator.{Generator, generator_of, last_unit, rows_in_all, table_of}
 use Rattle.life_intervals.specs.Intervals.{Known, change_unit, death, held_parent, held_until, is_after, is_live, known_tables, loss_by, loss_of, parent_of, row_at}
 use Rattle.life_intervals.specs.Keys.{key_of}

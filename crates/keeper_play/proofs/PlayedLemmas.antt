@@ -11,10 +11,10 @@ use Rattle.std.proofs.lemmas.List.Elements.{All-filter, filter_passes}
 use Rattle.std.proofs.lemmas.List.FromFn.{get_or-range_with_len, length-range_with_len}
 use Rattle.cohort_sizes.specs.Births.{Births, birth, born_count, cohort_size, first_ordinal}
 use Rattle.cohort_sizes.proofs.CohortLemmas.{birth-before, birth-le, born_count-le, born_count-next, first_ordinal-none}
-use Rattle.schema_plan.specs.Dictionaries.{Project}
-use Rattle.schema_plan.specs.Layout.{TableLayout, no_table, table_at}
+use Rattle.schema_facts.specs.Dictionaries.{Project}
+use Rattle.schema_facts.specs.Layout.{TableLayout, no_table, table_at}
 use Rattle.schema_plan.specs.Limits.{IsInLimits}
-use Rattle.schema_plan.proofs.Lists.{map-map}
+use Rattle.schema_facts.proofs.Lists.{map-map}
 use Rattle.life_intervals.specs.Generator.{Generator, generator_of, last_unit, rows_in_all, table_of}
 use Rattle.life_intervals.specs.Intervals.{change_unit, changing, death, dying, is_after, is_at, is_live, living, newborn, row_at}
 use Rattle.life_intervals.specs.Keys.{key_of}

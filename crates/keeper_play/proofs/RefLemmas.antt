@@ -7,10 +7,10 @@ use Rattle.std.proofs.lemmas.List.{append-nil, length-append}
 use Rattle.cohort_sizes.specs.Births.{Births, birth, born_count, first_ordinal}
 use Rattle.cohort_sizes.proofs.CohortLemmas.{LiesIn-birth, born_count-next}
 use Rattle.schema_plan.specs.declared.ready.ReadyReference.{ReadyReference}
-use Rattle.schema_plan.specs.Dictionaries.{Project}
-use Rattle.schema_plan.specs.Layout.{TableLayout, table_at}
+use Rattle.schema_facts.specs.Dictionaries.{Project}
+use Rattle.schema_facts.specs.Layout.{TableLayout, table_at}
 use Rattle.schema_plan.specs.Limits.{IsInLimits}
-use Rattle.schema_plan.specs.References.{Reference, reference_at, references_of}
+use Rattle.schema_facts.specs.References.{Reference, reference_at, references_of}
 use Rattle.life_intervals.specs.declared.found.FoundRow.{FoundRow}
 use Rattle.life_intervals.specs.CohortParents.{IsReferenceOf, held_in, reference_by}
 use Rattle.life_intervals.specs.Found.{IsFound, cohort_of_row}

@@ -5,7 +5,7 @@ use Rattle.std.proofs.lemmas.Bool.{cases_Bool, cases_eq, cases_lt}
 use Rattle.std.proofs.lemmas.List.{length-append, take-append-le}
 use Rattle.std.proofs.lemmas.List.Sums.{fold-append}
 use Rattle.std.proofs.Math.Seq.{take-append-add}
-use Rattle.schema_plan.specs.Dictionaries.{Project}
+use Rattle.schema_facts.specs.Dictionaries.{Project}
 use Rattle.life_intervals.specs.Generator.{generator_of, last_unit, rows_in_all}
 use Rattle.life_intervals.specs.Keys.{key_of}
 use Rattle.row_keeper.specs.Kept.{KeptRow, KeptRows, NoneDangles, Statement, after_statement, after_statements, put_row, drop_row, is_row, with_row}

@@ -8,13 +8,13 @@ use Rattle.std.proofs.lemmas.List.FromFn.{get_or-range_with_len, length-range_wi
 use Rattle.philox_seeds.specs.SeedTree.{life_column}
 use Rattle.cohort_sizes.specs.Births.{Births, birth, born_count, cohort_size, first_ordinal}
 use Rattle.cohort_sizes.proofs.CohortLemmas.{born_count-le, born_count-next, cohort-within}
-use Rattle.schema_plan.specs.declared.layout.Span.{Span}
-use Rattle.schema_plan.specs.Dictionaries.{Project}
-use Rattle.schema_plan.specs.Layout.{TableLayout}
+use Rattle.schema_facts.specs.declared.layout.Span.{Span}
+use Rattle.schema_facts.specs.Dictionaries.{Project}
+use Rattle.schema_facts.specs.Layout.{TableLayout}
 use Rattle.schema_plan.specs.Limits.{IsInLimits, IsSpan}
-use Rattle.schema_plan.specs.Lineage.{sure_life}
-use Rattle.schema_plan.specs.References.{cascades_of}
-use Rattle.schema_plan.proofs.Lists.{map-map}
+use Rattle.schema_facts.specs.Lineage.{sure_life}
+use Rattle.schema_facts.specs.References.{cascades_of}
+use Rattle.schema_facts.proofs.Lists.{map-map}
 use Rattle.cohort_sizes.specs.declared.cohort.Cohort.{Cohort}
 use Rattle.life_intervals.specs.CohortKeys.{IsCohort}
 use Rattle.life_intervals.specs.Generator.{Generator, generator_of, last_unit, rows_in_all, table_of}

@@ -1,7 +1,7 @@
 //! The laws of played units, for accepted schemas. Each law is the contract of a function that does nothing.
 
 ghost use Rattle.std.specs.Prelude.{◌≡◌, ◌≤◌, ℕ, length, take};
-ghost use Rattle.schema_plan.specs.Dictionaries.{Project};
+ghost use Rattle.schema_facts.specs.Dictionaries.{Project};
 ghost use Rattle.schema_plan.specs.Limits.{IsInLimits};
 ghost use Rattle.life_intervals.specs.Generator.{generator_of, last_unit};
 ghost use Rattle.row_keeper.specs.Kept.{NoneDangles, no_rows, after_statements};

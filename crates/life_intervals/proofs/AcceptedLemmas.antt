@@ -3,12 +3,12 @@ use Rattle.std.proofs.Common.{◌≡◌, ℕ, ◌<◌, ◌≤◌, Option, Some, 
 use Rattle.std.specs.Prelude.{All, IfSome}
 use Rattle.std.proofs.lemmas.List.{length-map}
 use Rattle.cohort_sizes.specs.Births.{Births, birth, index_at}
-use Rattle.schema_plan.specs.declared.layout.Span.{Span}
-use Rattle.schema_plan.specs.Counts.{count}
-use Rattle.schema_plan.specs.Dictionaries.{Project}
-use Rattle.schema_plan.specs.Layout.{TableLayout, no_table, table_at, table_layout}
+use Rattle.schema_facts.specs.declared.layout.Span.{Span}
+use Rattle.schema_facts.specs.Counts.{count}
+use Rattle.schema_facts.specs.Dictionaries.{Project}
+use Rattle.schema_facts.specs.Layout.{TableLayout, no_table, table_at, table_layout}
 use Rattle.schema_plan.specs.Limits.{IsInLimits, IsLife, IsSpan, IsTableInLimits, IsUpdatePeriod}
-use Rattle.schema_plan.specs.References.{IsReferenceInLimits, Reference, references_of}
+use Rattle.schema_facts.specs.References.{IsReferenceInLimits, Reference, references_of}
 use Rattle.life_intervals.specs.Generator.{Generator, generator_of, last_unit, table_of}
 use Rattle.life_intervals.specs.Intervals.{change_unit, held_parent, known_tables, loss_of, row_at}
 use Rattle.life_intervals.specs.Changes.{change_by}

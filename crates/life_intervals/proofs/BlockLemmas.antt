@@ -14,7 +14,7 @@ use Rattle.id_permutation.proofs.OrderLaws.{AreInversesBelow-number_at}
 use Rattle.weight_tables.specs.Weights.{selected, weight_before}
 use Rattle.weight_tables.proofs.PrefixSumLemmas.{prefix_sum-le-sum, prefix_sum-split, weight_before-all}
 use Rattle.weight_tables.proofs.SelectionLemmas.{Selects-place, Selects-selected}
-use Rattle.schema_plan.specs.References.{IsSpread}
+use Rattle.schema_facts.specs.References.{IsSpread}
 use Rattle.life_intervals.specs.declared.children.Block.{Block}
 use Rattle.life_intervals.specs.Blocks.{block_below, block_of, block_start, places_choosing, places_of, places_of_parent}
 use Rattle.life_intervals.specs.References.{choice}

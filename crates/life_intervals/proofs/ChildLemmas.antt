@@ -14,10 +14,10 @@ use Rattle.schema_plan.specs.declared.ready.ReadyColumn.{ReadyColumn}
 use Rattle.schema_plan.specs.declared.ready.ReadyReference.{ReadyReference}
 use Rattle.schema_plan.specs.declared.ready.ReadyKind.TheVariants as kind
 use Rattle.schema_plan.specs.Ready.{ready_columns}
-use Rattle.schema_plan.specs.Dictionaries.{Project}
-use Rattle.schema_plan.specs.Layout.{KindLayout, reference_kind, column_at, layout_of, table_at}
+use Rattle.schema_facts.specs.Dictionaries.{Project}
+use Rattle.schema_facts.specs.Layout.{KindLayout, reference_kind, column_at, layout_of, table_at}
 use Rattle.schema_plan.specs.Limits.{IsInLimits}
-use Rattle.schema_plan.specs.References.{IsReferenceInLimits, IsSpread, Reference, count_in_window, first_in_window, reference_at, reference_of, window_start}
+use Rattle.schema_facts.specs.References.{IsReferenceInLimits, IsSpread, Reference, count_in_window, first_in_window, reference_at, reference_of, window_start}
 use Rattle.life_intervals.specs.Blocks.{block_below, places_of_parent, places_of}
 use Rattle.life_intervals.specs.Children.{IsCandidate, IsInWindow, candidate_count, candidate_number, child_at, child_block, children, children_of_each, deal_number, deal_to, number_block}
 use Rattle.life_intervals.specs.CohortOrders.{parent_order}

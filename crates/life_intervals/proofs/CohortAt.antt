@@ -1,7 +1,7 @@
 -- The rows of a cohort by their indices: their ordinals, lives and changes.
 use Rattle.std.specs.Prelude.{ℕ, ◌+◌, Bool, Option}
 use Rattle.cohort_sizes.specs.Births.{cohort_size, first_ordinal}
-use Rattle.schema_plan.specs.Dictionaries.{Project}
+use Rattle.schema_facts.specs.Dictionaries.{Project}
 use Rattle.life_intervals.specs.declared.lives.Survival.{Survival}
 use Rattle.life_intervals.specs.Changes.{due_by}
 use Rattle.life_intervals.specs.CohortKeys.{CohortOf}

@@ -8,10 +8,10 @@ use Rattle.std.proofs.lemmas.Nat.{div-add-mod', mod_below}
 use Rattle.id_permutation.specs.Order.{place_in}
 use Rattle.philox_seeds.specs.SeedTree.{update_column}
 use Rattle.cohort_sizes.specs.Births.{Births, birth, born_count, cohort_size, first_ordinal, index_at}
-use Rattle.schema_plan.specs.Layout.{TableLayout, layout_of, table_at}
+use Rattle.schema_facts.specs.Layout.{TableLayout, layout_of, table_at}
 use Rattle.schema_plan.specs.Limits.{IsInLimits}
-use Rattle.schema_plan.specs.References.{Reference, references_of}
-use Rattle.schema_plan.specs.Lineage.{lesser_life, longest_life, sure_life}
+use Rattle.schema_facts.specs.References.{Reference, references_of}
+use Rattle.schema_facts.specs.Lineage.{lesser_life, longest_life, sure_life}
 use Rattle.life_intervals.specs.declared.lives.Survival.TheVariants.{Sure, Over}
 use Rattle.life_intervals.specs.Changes.{change_by, change_span, due_by, first_due, has_nullings, last_change, last_due, may_change}
 use Rattle.life_intervals.specs.CohortLives.{survival_by}

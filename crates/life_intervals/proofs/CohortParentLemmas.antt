@@ -8,19 +8,19 @@ use Rattle.std.proofs.lemmas.List.Sums.{fold-append, sum_by-cons, sum_by_push}
 use Rattle.philox_seeds.specs.SeedTree.{reference_order_seed}
 use Rattle.id_permutation.specs.Order.{place_in}
 use Rattle.cohort_sizes.specs.Births.{Births, birth, born_count, cohort_size, index_at}
-use Rattle.schema_plan.specs.declared.layout.Span.{Span}
-use Rattle.schema_plan.specs.declared.lineage.Lineage.{Lineage}
+use Rattle.schema_facts.specs.declared.layout.Span.{Span}
+use Rattle.schema_facts.specs.declared.lineage.Lineage.{Lineage}
 use Rattle.schema_plan.specs.declared.ready.ReadyColumn.{ReadyColumn}
 use Rattle.schema_plan.specs.declared.ready.ReadyReference.{ReadyReference}
 use Rattle.schema_plan.specs.declared.ready.ReadyKind.TheVariants as kind
-use Rattle.schema_plan.specs.Dictionaries.{Project}
-use Rattle.schema_plan.specs.Layout.{KindLayout, reference_kind, ColumnLayout, TableLayout, column_at, layout_of, no_column, no_table, table_at}
+use Rattle.schema_facts.specs.Dictionaries.{Project}
+use Rattle.schema_facts.specs.Layout.{KindLayout, reference_kind, ColumnLayout, TableLayout, column_at, layout_of, no_column, no_table, table_at}
 use Rattle.schema_plan.specs.Limits.{IsInLimits}
-use Rattle.schema_plan.specs.Lineage.{choice_cost, death_cost, endless, lesser_life, loss_cost, lineage_at, lineages, one_if, own_lineage, sure_life, with_kind}
-use Rattle.schema_plan.specs.TableFacts.{change_cost}
+use Rattle.schema_facts.specs.Lineage.{choice_cost, death_cost, endless, lesser_life, loss_cost, lineage_at, lineages, one_if, own_lineage, sure_life, with_kind}
+use Rattle.schema_facts.specs.TableFacts.{change_cost}
 use Rattle.schema_plan.specs.Ready.{ready_column, ready_columns, ready_kind}
-use Rattle.schema_plan.specs.References.{IsReferenceInLimits, Reference, cascades_of, count_in_window, first_in_window, reference_at, references_of}
-use Rattle.schema_plan.proofs.LineageLemmas.{lineage_at-lineages}
+use Rattle.schema_facts.specs.References.{IsReferenceInLimits, Reference, cascades_of, count_in_window, first_in_window, reference_at, references_of}
+use Rattle.schema_facts.proofs.LineageLemmas.{lineage_at-lineages}
 use Rattle.life_intervals.specs.declared.window.CandidateWindow.{CandidateWindow}
 use Rattle.life_intervals.specs.Changes.{due_by, has_nullings, last_change, later_change}
 use Rattle.life_intervals.specs.CohortKeys.{CohortOf}

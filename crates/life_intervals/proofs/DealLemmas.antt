@@ -3,8 +3,8 @@ use Rattle.std.proofs.Common.{◌≡◌, ℕ, ◌<◌, Bool, true, false, refl}
 use Rattle.std.proofs.lemmas.Nat.{mod_below}
 use Rattle.id_permutation.specs.Order.{order_steps}
 use Rattle.id_permutation.proofs.OrderLaws.{AreInversesBelow-number_at}
-use Rattle.schema_plan.specs.Lineage.{one_if}
-use Rattle.schema_plan.specs.References.{Reference}
+use Rattle.schema_facts.specs.Lineage.{one_if}
+use Rattle.schema_facts.specs.References.{Reference}
 use Rattle.life_intervals.specs.References.{deal_of, dealt}
 
 -- a place chooses one of the candidates

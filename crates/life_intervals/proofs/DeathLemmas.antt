@@ -1,7 +1,7 @@
 -- Deaths: the first of some, those that a unit passes, and how many units are left to one.
 use Rattle.std.proofs.Common.{◌≡◌, ℕ, suc, ◌-◌, ◌≤◌, min, ltb, not, true, false, ◌&&◌, Option, Some, None, option_map, inl, inr, arith, refl, sym, ◌∙◌, ap, le-ltb, lt-ltb, ltb-true, ltb-false, eq-eqb, ne_eqb}
 use Rattle.std.proofs.lemmas.Bool.{cases_lt, cases_Bool, and_parts, and_from, false≢true}
-use Rattle.schema_plan.specs.Lineage.{lesser_life}
+use Rattle.schema_facts.specs.Lineage.{lesser_life}
 use Rattle.life_intervals.specs.Intervals.{is_after, is_at}
 use Rattle.life_intervals.specs.Simulation.{is_over, one_less}
 

@@ -7,13 +7,13 @@ use Rattle.std.proofs.lemmas.List.{ext_get_or, get_or-append_right, get_or-drop,
 use Rattle.std.proofs.lemmas.Slice.{drop-put_mid, take-put_mid, take-put_mid_below}
 use Rattle.cohort_sizes.specs.Births.{LiesIn, birth, born_count, first_ordinal, index_at}
 use Rattle.cohort_sizes.proofs.CohortLemmas.{born_count-le}
-use Rattle.schema_plan.specs.declared.layout.Span.{Span}
+use Rattle.schema_facts.specs.declared.layout.Span.{Span}
 use Rattle.schema_plan.specs.declared.ready.ReadyReference.{ReadyReference}
-use Rattle.schema_plan.specs.Dictionaries.{Project}
-use Rattle.schema_plan.specs.Layout.{layout_of}
+use Rattle.schema_facts.specs.Dictionaries.{Project}
+use Rattle.schema_facts.specs.Layout.{layout_of}
 use Rattle.schema_plan.specs.Limits.{IsInLimits}
-use Rattle.schema_plan.specs.Lineage.{lesser_life, sure_life}
-use Rattle.schema_plan.specs.References.{Reference, reference_at}
+use Rattle.schema_facts.specs.Lineage.{lesser_life, sure_life}
+use Rattle.schema_facts.specs.References.{Reference, reference_at}
 use Rattle.life_intervals.specs.declared.orders.Purpose.TheVariants.{Lives}
 use Rattle.life_intervals.specs.Changes.{later_change}
 use Rattle.life_intervals.specs.CohortKeys.{CohortOf}

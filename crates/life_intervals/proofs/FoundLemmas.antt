@@ -6,10 +6,10 @@ use Rattle.id_permutation.specs.Order.{place_in}
 use Rattle.cohort_sizes.specs.Births.{Births, LiesIn, birth, born_count, first_ordinal, index_at}
 use Rattle.cohort_sizes.proofs.CohortLemmas.{birth-first_ordinal, birth-later, birth-le, cohort-within, index_at-below}
 use Rattle.schema_plan.specs.declared.ready.ReadyReference.{ReadyReference}
-use Rattle.schema_plan.specs.Dictionaries.{Project}
-use Rattle.schema_plan.specs.Layout.{layout_of}
+use Rattle.schema_facts.specs.Dictionaries.{Project}
+use Rattle.schema_facts.specs.Layout.{layout_of}
 use Rattle.schema_plan.specs.Limits.{IsInLimits}
-use Rattle.schema_plan.specs.Lineage.{lesser_life, sure_life}
+use Rattle.schema_facts.specs.Lineage.{lesser_life, sure_life}
 use Rattle.life_intervals.specs.declared.found.FoundRow.{FoundRow}
 use Rattle.life_intervals.specs.Changes.{change_span, due_by, last_change}
 use Rattle.life_intervals.specs.CohortOrders.{life_order}

@@ -1,7 +1,7 @@
 -- What comes of items in turn, known otherwise.
 use Rattle.std.proofs.Common.{◌≡◌, ℕ, suc, ◌<◌, List, [], ◌∷◌, ◌++◌, length, map, take, zip, get_or, refl, ap, arith, append_assoc, sym, ◌∙◌}
 use Rattle.std.proofs.lemmas.List.{append-nil}
-use Rattle.schema_plan.specs.InTurn.{in_turn}
+use Rattle.schema_facts.specs.InTurn.{in_turn}
 
 in_turn_from : {K X Y : Type 0} (f : List Y → X × Y → Y) (before after : K → Y) (k0 : K) (x0 : X) (done : List Y) (xs : List X) (ks : List K) → length xs ≡ length ks →
     ((i : ℕ) → i < length xs → f (done ++ map after (take i ks)) (get_or xs i x0, before (get_or ks i k0)) ≡ after (get_or ks i k0)) →

@@ -5,8 +5,8 @@ use Rattle.philox_seeds.specs.SeedTree as seeds
 use Rattle.id_permutation.specs.Walk.{IsBijectionBelow}
 use Rattle.id_permutation.proofs.PlacementLaws.{IsBijectionBelow-place}
 use Rattle.cohort_sizes.specs.Births.{Births, LiesIn, birth, born_count, cohort_size, first_ordinal}
-use Rattle.schema_plan.specs.Dictionaries.{Project}
-use Rattle.schema_plan.specs.Layout.{TableLayout, layout_of, table_at}
+use Rattle.schema_facts.specs.Dictionaries.{Project}
+use Rattle.schema_facts.specs.Layout.{TableLayout, layout_of, table_at}
 use Rattle.life_intervals.specs.Generator.{Generator, generator_of, table_of}
 use Rattle.life_intervals.specs.Keys.{place_in_cohort, key_in_cohort, key_of, OrdersCohorts}
 use Rattle.cohort_sizes.proofs.CohortLemmas.{LiesIn-birth, birth-first_ordinal, cohort-within}

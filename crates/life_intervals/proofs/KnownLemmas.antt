@@ -3,13 +3,13 @@ use Rattle.std.proofs.Common.{◌≡◌, ℕ, zero, suc, ◌+◌, ◌<◌, ◌�
 use Rattle.std.specs.List.{AllByRecursion}
 use Rattle.std.proofs.lemmas.List.{get_or-take, length-take-le}
 use Rattle.cohort_sizes.specs.Births.{born_count, cohort_size}
-use Rattle.schema_plan.specs.Layout.{TableLayout, no_table, table_at}
-use Rattle.schema_plan.specs.Lineage.{endless, lineages, sure_life}
-use Rattle.schema_plan.proofs.Lists.{get_or-in_turn, length-in_turn}
+use Rattle.schema_facts.specs.Layout.{TableLayout, no_table, table_at}
+use Rattle.schema_facts.specs.Lineage.{endless, lineages, sure_life}
+use Rattle.schema_facts.proofs.Lists.{get_or-in_turn, length-in_turn}
 use Rattle.philox_seeds.specs.SeedTree.{life_column}
 use Rattle.life_intervals.specs.Generator.{Generator}
 use Rattle.life_intervals.specs.Intervals.{Known, is_after, known_at, known_by, known_of, known_tables, nothing_known}
-use Rattle.schema_plan.specs.References.{Reference, cascades_of, first_in_window, references_of}
+use Rattle.schema_facts.specs.References.{Reference, cascades_of, first_in_window, references_of}
 use Rattle.life_intervals.specs.Sound.{AreSound, IsSoundReference}
 use Rattle.life_intervals.proofs.CascadeLemmas.{AllByRecursion-filter, is_cascading}
 use Rattle.life_intervals.proofs.DeathLemmas.{is_after-lesser_from}

@@ -6,12 +6,12 @@ use Rattle.std.specs.Option.{option_map_or}
 use Rattle.std.proofs.lemmas.List.Elements.{All-from_recursion}
 use Rattle.philox_seeds.specs.SeedTree.{update_column}
 use Rattle.cohort_sizes.specs.Births.{Births, birth, born_count, cohort_size, first_ordinal, index_at}
-use Rattle.schema_plan.specs.Layout.{TableLayout, table_at}
-use Rattle.schema_plan.specs.Lineage.{sure_life}
+use Rattle.schema_facts.specs.Layout.{TableLayout, table_at}
+use Rattle.schema_facts.specs.Lineage.{sure_life}
 use Rattle.life_intervals.specs.Changes.{due_by, first_due, last_due}
 use Rattle.life_intervals.specs.Generator.{Generator, Order}
 use Rattle.life_intervals.specs.Intervals.{Known, change_unit, death, death_by, first_death, known_at, known_of, known_tables, loss_by, loss_of, own_death, own_death_by, parent_by, parent_death_by, parent_of}
-use Rattle.schema_plan.specs.References.{Reference, cascades_of, reference_at, references_of}
+use Rattle.schema_facts.specs.References.{Reference, cascades_of, reference_at, references_of}
 use Rattle.life_intervals.specs.Sound.{AreSound}
 use Rattle.life_intervals.proofs.CascadeLemmas.{AllByRecursion-map}
 use Rattle.life_intervals.proofs.ChangeLemmas.{change-le, last_change-le}

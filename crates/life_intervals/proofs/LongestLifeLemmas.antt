@@ -7,13 +7,13 @@ use Rattle.std.proofs.lemmas.List.{get_or-take}
 use Rattle.std.proofs.lemmas.Nat.{mod_below}
 use Rattle.philox_seeds.specs.SeedTree.{life_column}
 use Rattle.cohort_sizes.specs.Births.{Births, birth, cohort_size, index_at}
-use Rattle.schema_plan.specs.declared.layout.Span.{Span}
-use Rattle.schema_plan.specs.declared.lineage.Lineage.{Lineage}
-use Rattle.schema_plan.specs.Layout.{KindLayout, reference_kind, ColumnLayout, TableLayout, table_at}
+use Rattle.schema_facts.specs.declared.layout.Span.{Span}
+use Rattle.schema_facts.specs.declared.lineage.Lineage.{Lineage}
+use Rattle.schema_facts.specs.Layout.{KindLayout, reference_kind, ColumnLayout, TableLayout, table_at}
 use Rattle.schema_plan.specs.Limits.{IsSpan}
-use Rattle.schema_plan.specs.Lineage.{endless, lineage_at, lineages, longest_life, own_lineage, sure_life, with_kind}
-use Rattle.schema_plan.specs.References.{Reference, cascades_of, references_of}
-use Rattle.schema_plan.proofs.LineageLemmas.{lineage_at-lineages}
+use Rattle.schema_facts.specs.Lineage.{endless, lineage_at, lineages, longest_life, own_lineage, sure_life, with_kind}
+use Rattle.schema_facts.specs.References.{Reference, cascades_of, references_of}
+use Rattle.schema_facts.proofs.LineageLemmas.{lineage_at-lineages}
 use Rattle.life_intervals.specs.Generator.{Generator}
 use Rattle.life_intervals.specs.Intervals.{Known, death_by, first_death, is_after, known_at, known_of, known_tables, own_death_by, parent_by, parent_death_by}
 use Rattle.life_intervals.specs.Rows.{life_by}

@@ -6,11 +6,11 @@ use Rattle.std.proofs.lemmas.Bool.{cases_lt, le-ltb, lt-ltb}
 use Rattle.philox_seeds.specs.SeedTree.{key_order_seed, life_column, life_order_seed, update_column, update_order_seed}
 use Rattle.id_permutation.specs.Order.{order_steps, place_by, place_in, steps_by}
 use Rattle.id_permutation.specs.Placement as placement
-use Rattle.schema_plan.specs.declared.layout.Span.{Span}
+use Rattle.schema_facts.specs.declared.layout.Span.{Span}
 use Rattle.cohort_sizes.specs.Births.{cohort_size}
-use Rattle.schema_plan.specs.Dictionaries.{Project}
-use Rattle.schema_plan.specs.Layout.{layout_of}
-use Rattle.schema_plan.specs.Lineage.{one_if}
+use Rattle.schema_facts.specs.Dictionaries.{Project}
+use Rattle.schema_facts.specs.Layout.{layout_of}
+use Rattle.schema_facts.specs.Lineage.{one_if}
 use Rattle.life_intervals.specs.Changes.{first_due}
 use Rattle.life_intervals.specs.CohortOrders.{do_lives_differ, do_updates_differ, key_order, life_order, update_order}
 use Rattle.life_intervals.specs.Generator.{generator_of, table_of}

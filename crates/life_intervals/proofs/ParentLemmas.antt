@@ -9,11 +9,11 @@ use Rattle.std.proofs.lemmas.List.FromFn.{get_or-range_with_len, length-range_wi
 use Rattle.cohort_sizes.specs.Births.{Births, LiesIn, birth, born_count, cohort_size, first_ordinal, index_at}
 use Rattle.life_intervals.specs.Generator.{Order}
 use Rattle.life_intervals.specs.Intervals.{Known, death_by, first_death, held_until, is_after, is_at, known_at, nothing_known, parent_by, parent_death_by, row_by}
-use Rattle.schema_plan.specs.References.{Reference, count_in_window, first_in_window, window_start}
+use Rattle.schema_facts.specs.References.{Reference, count_in_window, first_in_window, window_start}
 use Rattle.life_intervals.specs.References.{dealt}
 use Rattle.life_intervals.specs.Rows.{Row, State, candidates, is_in_window, parent_choice}
 use Rattle.life_intervals.specs.Simulation.{holds_row, is_gone, is_lost}
-use Rattle.schema_plan.specs.References.{IsWithinLife}
+use Rattle.schema_facts.specs.References.{IsWithinLife}
 use Rattle.life_intervals.proofs.CascadeLemmas.{is_after-cascades}
 use Rattle.cohort_sizes.proofs.CohortLemmas.{LiesIn-birth, birth-before, birth-from, birth-later, born_count-le}
 use Rattle.life_intervals.proofs.DealLemmas.{dealt-below}

@@ -3,8 +3,8 @@ use Rattle.std.proofs.Common.{◌≡◌, ℕ, ◌<◌, ◌≤◌, Bool, true, fa
 use Rattle.std.specs.Prelude.{All, if◌then◌else◌}
 use Rattle.std.specs.List.{list_all}
 use Rattle.cohort_sizes.specs.Births.{born_count}
-use Rattle.schema_plan.specs.Layout.{table_at}
-use Rattle.schema_plan.specs.References.{Reference, cascades_of, references_of}
+use Rattle.schema_facts.specs.Layout.{table_at}
+use Rattle.schema_facts.specs.References.{Reference, cascades_of, references_of}
 use Rattle.life_intervals.specs.Generator.{Generator}
 use Rattle.life_intervals.specs.Intervals.{death, first_death, held_parent, held_until, is_after, is_live, own_death, parent_of}
 use Rattle.life_intervals.specs.Sound.{AreSound}

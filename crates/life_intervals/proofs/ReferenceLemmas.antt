@@ -5,10 +5,10 @@ use Rattle.std.proofs.lemmas.List.{append-nil}
 use Rattle.std.specs.List.{cons_option, enumerate_from, filter_map}
 use Rattle.schema_plan.specs.declared.ready.ReadyReference.{ReadyReference}
 use Rattle.schema_plan.specs.declared.ready.ReadyKind.TheVariants as kind
-use Rattle.schema_plan.specs.Layout.{KindLayout, reference_kind, ColumnLayout, TableLayout, column_at}
-use Rattle.schema_plan.specs.Lineage.{lesser_life}
+use Rattle.schema_facts.specs.Layout.{KindLayout, reference_kind, ColumnLayout, TableLayout, column_at}
+use Rattle.schema_facts.specs.Lineage.{lesser_life}
 use Rattle.schema_plan.specs.Ready.{ready_kind, ready_reference}
-use Rattle.schema_plan.specs.References.{Reference, reference_at, reference_of, references_of}
+use Rattle.schema_facts.specs.References.{Reference, reference_at, reference_of, references_of}
 use Rattle.life_intervals.specs.CohortParents.{reference_by}
 use Rattle.life_intervals.specs.Intervals.{first_death}
 

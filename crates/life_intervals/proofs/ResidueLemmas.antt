@@ -8,7 +8,7 @@ use Rattle.std.proofs.lemmas.List.Elements.{filter-append}
 use Rattle.id_permutation.specs.Order.{Arrangement, number_at, place_in}
 use Rattle.id_permutation.proofs.OrderLaws.{AreInversesBelow-number_at}
 use Rattle.cohort_sizes.specs.Births.{cohort_size, first_ordinal}
-use Rattle.schema_plan.specs.Dictionaries.{Project}
+use Rattle.schema_facts.specs.Dictionaries.{Project}
 use Rattle.life_intervals.specs.declared.orders.Purpose.{Purpose}
 use Rattle.life_intervals.specs.CohortOrders.{order_for, place_for}
 use Rattle.life_intervals.specs.FoundAt.{places_leaving, row_at_place, rows_leaving}

@@ -4,13 +4,13 @@ use Rattle.std.specs.Prelude.{IfSome, if◌then◌else◌}
 use Rattle.std.specs.List.{list_any, range_with_len}
 use Rattle.std.proofs.lemmas.Bool.{cases_Bool}
 use Rattle.philox_seeds.specs.SeedTree.{life_column, update_column}
-use Rattle.schema_plan.specs.declared.layout.Span.{Span}
+use Rattle.schema_facts.specs.declared.layout.Span.{Span}
 use Rattle.cohort_sizes.specs.Births.{birth, born_count, cohort_size, first_ordinal, index_at}
-use Rattle.schema_plan.specs.Layout.{TableLayout}
+use Rattle.schema_facts.specs.Layout.{TableLayout}
 use Rattle.life_intervals.specs.Changes.{change_by, due_by, first_due, last_change, wait_by}
 use Rattle.life_intervals.specs.Generator.{Order}
 use Rattle.life_intervals.specs.Intervals.{Known, death_by, first_death, held_until, is_after, is_at, known_by, loss_by, own_death_by, parent_by, parent_death_by, row_by}
-use Rattle.schema_plan.specs.References.{Reference, cascades_of, references_of}
+use Rattle.schema_facts.specs.References.{Reference, cascades_of, references_of}
 use Rattle.life_intervals.specs.Rows.{Row, State, first_age_by, life_by, new_row, parent_choice}
 use Rattle.life_intervals.specs.Simulation.{hold_parents, is_due, is_over, kept, lose_parents, one_less, parents_left, waited}
 use Rattle.schema_plan.specs.Limits.{IsSpan}

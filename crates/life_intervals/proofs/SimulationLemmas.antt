@@ -7,12 +7,12 @@ use Rattle.std.proofs.lemmas.List.{append-nil, get_or-map, get_or_past, length-m
 use Rattle.std.proofs.lemmas.List.Elements.{filter_map-append}
 use Rattle.std.proofs.lemmas.List.FromFn.{fill_by_all}
 use Rattle.cohort_sizes.specs.Births.{birth, born_count, cohort_size, first_ordinal, index_at}
-use Rattle.schema_plan.specs.InTurn.{in_turn}
-use Rattle.schema_plan.specs.Layout.{TableLayout, no_table, table_at}
-use Rattle.schema_plan.specs.Lineage.{sure_life}
+use Rattle.schema_facts.specs.InTurn.{in_turn}
+use Rattle.schema_facts.specs.Layout.{TableLayout, no_table, table_at}
+use Rattle.schema_facts.specs.Lineage.{sure_life}
 use Rattle.life_intervals.specs.Generator.{Generator, Order}
 use Rattle.life_intervals.specs.Intervals.{Known, interval_state, is_live, known_by, known_of, known_tables, nothing_known, row_at, rows_of}
-use Rattle.schema_plan.specs.References.{cascades_of, references_of}
+use Rattle.schema_facts.specs.References.{cascades_of, references_of}
 use Rattle.life_intervals.specs.Rows.{Row, State, cohort, new_row}
 use Rattle.life_intervals.specs.Simulation.{kept, rows_at, simulation, step, waited, with_changes, with_cohort, with_deletions, with_insertions, with_updates, without_dead}
 use Rattle.schema_plan.specs.Limits.{IsSpan}

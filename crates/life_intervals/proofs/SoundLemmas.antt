@@ -6,12 +6,12 @@ use Rattle.std.specs.Option.{option_map_or}
 use Rattle.std.proofs.lemmas.Bool.{cases_Bool}
 use Rattle.std.proofs.lemmas.List.Elements.{All-from_recursion}
 use Rattle.cohort_sizes.specs.Births.{birth, born_count, cohort_size, index_at}
-use Rattle.schema_plan.specs.Layout.{TableLayout, table_at}
-use Rattle.schema_plan.specs.Lineage.{sure_life}
+use Rattle.schema_facts.specs.Layout.{TableLayout, table_at}
+use Rattle.schema_facts.specs.Lineage.{sure_life}
 use Rattle.life_intervals.specs.Changes.{IsLastChange, IsLastDue, due_by, first_due, last_due}
 use Rattle.life_intervals.specs.Generator.{Generator, Order}
 use Rattle.life_intervals.specs.Intervals.{Known, change_unit, is_live, known_of, loss_of, row_at, rows_of}
-use Rattle.schema_plan.specs.References.{Reference, count_in_window, first_in_window, references_of}
+use Rattle.schema_facts.specs.References.{Reference, count_in_window, first_in_window, references_of}
 use Rattle.life_intervals.specs.Rows.{Row, candidates}
 use Rattle.life_intervals.specs.Simulation.{rows_at}
 use Rattle.life_intervals.specs.Sound.{AreSound, IsSoundReference}

@@ -7,11 +7,11 @@ use Rattle.std.proofs.lemmas.List.{get_or-map, length-map}
 use Rattle.std.proofs.lemmas.Option.{none-some}
 use Rattle.std.proofs.lemmas.List.Elements.{filter-append, filter_map-append}
 use Rattle.cohort_sizes.specs.Births.{birth, born_count, cohort_size, first_ordinal, index_at}
-use Rattle.schema_plan.specs.Layout.{TableLayout, table_at}
-use Rattle.schema_plan.specs.Lineage.{sure_life}
+use Rattle.schema_facts.specs.Layout.{TableLayout, table_at}
+use Rattle.schema_facts.specs.Lineage.{sure_life}
 use Rattle.life_intervals.specs.Generator.{Generator, Order}
 use Rattle.life_intervals.specs.Intervals.{Known, change_unit, changing, death, death_by, dying, is_after, is_at, is_live, known_by, known_of, known_tables, newborn, nothing_known, row_at, row_by}
-use Rattle.schema_plan.specs.References.{cascades_of, references_of}
+use Rattle.schema_facts.specs.References.{cascades_of, references_of}
 use Rattle.life_intervals.specs.Rows.{Row, State, cohort, new_row}
 use Rattle.life_intervals.specs.Simulation.{kept, rows_at, simulation, with_deletions, with_updates}
 use Rattle.life_intervals.specs.Sound.{AreSound}

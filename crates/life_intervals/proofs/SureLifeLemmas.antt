@@ -2,13 +2,13 @@
 use Rattle.std.proofs.Common.{◌≡◌, ℕ, suc, ◌+◌, ◌<◌, true, false, List, [], ◌∷◌, filter, length, take, Option, Some, None, option_map, refl, arith, lt-ltb, ltb-true, subst}
 use Rattle.std.specs.Prelude.{All}
 use Rattle.std.specs.List.{AllByRecursion, cons_option, enumerate_from, filter_map, fold}
-use Rattle.schema_plan.specs.declared.layout.Span.{Span}
-use Rattle.schema_plan.specs.declared.lineage.Lineage.{Lineage}
-use Rattle.schema_plan.specs.Layout.{KindLayout, reference_kind, ColumnLayout, TableLayout, table_at}
-use Rattle.schema_plan.specs.Lineage.{lineage_at, lineages, own_lineage, sure_life, with_kind}
-use Rattle.schema_plan.proofs.LineageLemmas.{lineage_at-lineages}
+use Rattle.schema_facts.specs.declared.layout.Span.{Span}
+use Rattle.schema_facts.specs.declared.lineage.Lineage.{Lineage}
+use Rattle.schema_facts.specs.Layout.{KindLayout, reference_kind, ColumnLayout, TableLayout, table_at}
+use Rattle.schema_facts.specs.Lineage.{lineage_at, lineages, own_lineage, sure_life, with_kind}
+use Rattle.schema_facts.proofs.LineageLemmas.{lineage_at-lineages}
 use Rattle.life_intervals.specs.Intervals.{is_after}
-use Rattle.schema_plan.specs.References.{Reference, cascades_of, reference_of}
+use Rattle.schema_facts.specs.References.{Reference, cascades_of, reference_of}
 use Rattle.life_intervals.specs.Rows.{life_by}
 use Rattle.life_intervals.proofs.CascadeLemmas.{is_cascading}
 use Rattle.life_intervals.proofs.DeathLemmas.{is_after-lesser_parts}

@@ -3,8 +3,8 @@ use Rattle.std.specs.Prelude.{◌≡◌, ℕ, ◌+◌, ◌-◌, ◌*◌, ◌%◌
 use Rattle.std.specs.List.{list_any}
 use Rattle.std.specs.Option.{option_map, option_map_or}
 use Rattle.philox_seeds.specs.SeedTree.{update_column}
-use Rattle.schema_plan.specs.Layout.{TableLayout}
-use Rattle.schema_plan.specs.References.{Reference, references_of}
+use Rattle.schema_facts.specs.Layout.{TableLayout}
+use Rattle.schema_facts.specs.References.{Reference, references_of}
 use Rattle.life_intervals.specs.Generator.{Order}
 
 -- the last up to a unit of the units `first`, `first` + `period`, and so on; `born` where the first of them is past it

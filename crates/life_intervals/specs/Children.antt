@@ -4,9 +4,9 @@ use Rattle.std.specs.List.{flat_map}
 use Rattle.philox_seeds.specs.SeedTree.{deal_seed}
 use Rattle.id_permutation.specs.Order.{Arrangement, number_at}
 use Rattle.cohort_sizes.specs.Births.{born_count, cohort_size, first_ordinal}
-use Rattle.schema_plan.specs.Dictionaries.{Project}
-use Rattle.schema_plan.specs.Layout.{layout_of}
-use Rattle.schema_plan.specs.References.{Reference, count_in_window, first_in_window}
+use Rattle.schema_facts.specs.Dictionaries.{Project}
+use Rattle.schema_facts.specs.Layout.{layout_of}
+use Rattle.schema_facts.specs.References.{Reference, count_in_window, first_in_window}
 use Rattle.life_intervals.specs.declared.children.Block.{Block}
 use Rattle.life_intervals.specs.Blocks.{block_of}
 use Rattle.life_intervals.specs.CohortOrders.{parent_order}

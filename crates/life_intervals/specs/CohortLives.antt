@@ -1,9 +1,9 @@
 -- Whether the rows of a cohort may be dead at a unit.
 use Rattle.std.specs.Prelude.{ℕ, ◌+◌, Option, if◌then◌else◌}
 use Rattle.std.specs.Option.{option_map}
-use Rattle.schema_plan.specs.Dictionaries.{Project}
-use Rattle.schema_plan.specs.Layout.{layout_of}
-use Rattle.schema_plan.specs.Lineage.{longest_life, sure_life}
+use Rattle.schema_facts.specs.Dictionaries.{Project}
+use Rattle.schema_facts.specs.Layout.{layout_of}
+use Rattle.schema_facts.specs.Lineage.{longest_life, sure_life}
 use Rattle.life_intervals.specs.declared.lives.Survival.{Survival}
 use Rattle.life_intervals.specs.declared.lives.Survival.TheVariants.{Sure, Drawn, Over}
 use Rattle.life_intervals.specs.Intervals.{is_after}

@@ -3,10 +3,10 @@ use Rattle.std.specs.Prelude.{ℕ, ◌-◌, Bool, ◌&&◌, nat_lt, true, false,
 use Rattle.std.specs.Option.{option_map_or}
 use Rattle.philox_seeds.specs.SeedTree.{key_order_seed, life_order_seed, reference_order_seed, update_order_seed}
 use Rattle.id_permutation.specs.Order.{Arrangement, place_in}
-use Rattle.schema_plan.specs.declared.layout.Span.{Span}
+use Rattle.schema_facts.specs.declared.layout.Span.{Span}
 use Rattle.cohort_sizes.specs.Births.{cohort_size, first_ordinal}
-use Rattle.schema_plan.specs.Dictionaries.{Project}
-use Rattle.schema_plan.specs.Layout.{TableLayout, layout_of}
+use Rattle.schema_facts.specs.Dictionaries.{Project}
+use Rattle.schema_facts.specs.Layout.{TableLayout, layout_of}
 use Rattle.life_intervals.specs.declared.orders.Purpose.{Purpose}
 use Rattle.life_intervals.specs.declared.orders.Purpose.TheVariants.{Keys, Lives, Updates, Parents}
 use Rattle.life_intervals.specs.Changes.{due_by}

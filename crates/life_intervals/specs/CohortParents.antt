@@ -4,11 +4,11 @@ use Rattle.schema_plan.specs.declared.ready.ReadyColumn.{ReadyColumn}
 use Rattle.schema_plan.specs.declared.ready.ReadyReference.{ReadyReference}
 use Rattle.schema_plan.specs.declared.ready.ReadyKind.{ReadyKind}
 use Rattle.schema_plan.specs.declared.ready.ReadyKind.TheVariants as kind
-use Rattle.schema_plan.specs.Dictionaries.{Project}
-use Rattle.schema_plan.specs.Layout.{TableLayout, column_at, layout_of, table_at}
-use Rattle.schema_plan.specs.Lineage.{choice_cost, death_cost, loss_cost, one_if}
+use Rattle.schema_facts.specs.Dictionaries.{Project}
+use Rattle.schema_facts.specs.Layout.{TableLayout, column_at, layout_of, table_at}
+use Rattle.schema_facts.specs.Lineage.{choice_cost, death_cost, loss_cost, one_if}
 use Rattle.schema_plan.specs.Ready.{ready_kind}
-use Rattle.schema_plan.specs.References.{Reference, cascades_of, count_in_window, first_in_window, references_of}
+use Rattle.schema_facts.specs.References.{Reference, cascades_of, count_in_window, first_in_window, references_of}
 use Rattle.life_intervals.specs.declared.window.CandidateWindow.{CandidateWindow}
 use Rattle.life_intervals.specs.CohortKeys.{CohortOf}
 use Rattle.life_intervals.specs.CohortOrders.{do_lives_differ, do_updates_differ}

@@ -1,7 +1,7 @@
 -- Rows of a table that are found.
 use Rattle.std.specs.Prelude.{◌≡◌, ◌<◌, ◌≤◌, ℕ, ◌+◌}
 use Rattle.cohort_sizes.specs.Births.{cohort_size, first_ordinal}
-use Rattle.schema_plan.specs.Dictionaries.{Project}
+use Rattle.schema_facts.specs.Dictionaries.{Project}
 use Rattle.life_intervals.specs.declared.found.FoundRow.{FoundRow}
 use Rattle.life_intervals.specs.CohortKeys.{CohortOf}
 use Rattle.life_intervals.specs.Generator.{last_unit, table_of}

@@ -4,8 +4,8 @@ use Rattle.std.specs.List.{range_with_len}
 use Rattle.std.specs.List.Sorted.{IsPermutation}
 use Rattle.id_permutation.specs.Order.{number_at}
 use Rattle.cohort_sizes.specs.Births.{birth, first_ordinal, index_at}
-use Rattle.schema_plan.specs.Dictionaries.{Project}
-use Rattle.schema_plan.specs.Layout.{table_at}
+use Rattle.schema_facts.specs.Dictionaries.{Project}
+use Rattle.schema_facts.specs.Layout.{table_at}
 use Rattle.life_intervals.specs.declared.orders.Purpose.{Purpose}
 use Rattle.life_intervals.specs.Changes.{due_by}
 use Rattle.life_intervals.specs.CohortOrders.{order_for, place_for}

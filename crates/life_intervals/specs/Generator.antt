@@ -3,8 +3,8 @@ use Rattle.std.specs.Prelude.{ℕ, List}
 use Rattle.philox_seeds.specs.SeedTree.{deal_seed, field_draw, permutation_seed}
 use Rattle.id_permutation.specs.Placement as placement
 use Rattle.cohort_sizes.specs.Births.{born_count, cohort_size}
-use Rattle.schema_plan.specs.Dictionaries.{Project}
-use Rattle.schema_plan.specs.Layout.{Layout, layout_of, TableLayout, table_at}
+use Rattle.schema_facts.specs.Dictionaries.{Project}
+use Rattle.schema_facts.specs.Layout.{Layout, layout_of, TableLayout, table_at}
 
 -- the orders of a schema's cohorts: the place of an index, for a table, a purpose, a unit and an index in the unit's cohort; and the seed of
 -- the permutation that deals candidates to a cohort, for a table, the column of a reference and a unit

@@ -4,12 +4,12 @@ use Rattle.std.specs.List.{range_with_len}
 use Rattle.std.specs.Option.{option_map}
 use Rattle.philox_seeds.specs.SeedTree.{life_column}
 use Rattle.cohort_sizes.specs.Births.{birth, born_count, cohort_size, first_ordinal, index_at}
-use Rattle.schema_plan.specs.InTurn.{in_turn}
-use Rattle.schema_plan.specs.Layout.{TableLayout, no_table, table_at}
-use Rattle.schema_plan.specs.Lineage.{lesser_life}
+use Rattle.schema_facts.specs.InTurn.{in_turn}
+use Rattle.schema_facts.specs.Layout.{TableLayout, no_table, table_at}
+use Rattle.schema_facts.specs.Lineage.{lesser_life}
 use Rattle.life_intervals.specs.Changes.{change_by, wait_by}
 use Rattle.life_intervals.specs.Generator.{Generator, Order}
-use Rattle.schema_plan.specs.References.{Reference, cascades_of, count_in_window, first_in_window, references_of}
+use Rattle.schema_facts.specs.References.{Reference, cascades_of, count_in_window, first_in_window, references_of}
 use Rattle.life_intervals.specs.References.{dealt}
 use Rattle.life_intervals.specs.Rows.{Row, State, life_by}
 

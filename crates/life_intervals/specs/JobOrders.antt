@@ -2,7 +2,7 @@
 use Rattle.std.specs.Prelude.{◌≡◌, ◌<◌, ℕ, ◌+◌, List, get_or, length, map, sum_by}
 use Rattle.std.specs.List.{range_with_len}
 use Rattle.schema_plan.specs.declared.ready.ReadyReference.{ReadyReference}
-use Rattle.schema_plan.specs.Dictionaries.{Project}
+use Rattle.schema_facts.specs.Dictionaries.{Project}
 use Rattle.life_intervals.specs.declared.kept.ParentOrders.{ParentOrders}
 use Rattle.life_intervals.specs.declared.kept.TableOrders.{TableOrders}
 use Rattle.life_intervals.specs.CohortOrders.{key_order, life_order, parent_order, update_order}

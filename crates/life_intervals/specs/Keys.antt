@@ -3,7 +3,7 @@ use Rattle.std.specs.Prelude.{ℕ, ◌+◌, ◌-◌, ◌<◌, if◌then◌else�
 use Rattle.philox_seeds.specs.SeedTree as seeds
 use Rattle.id_permutation.specs.Walk.{IsBijectionBelow}
 use Rattle.cohort_sizes.specs.Births.{birth, cohort_size, first_ordinal}
-use Rattle.schema_plan.specs.Layout.{table_at}
+use Rattle.schema_facts.specs.Layout.{table_at}
 use Rattle.life_intervals.specs.Generator.{Generator}
 
 -- the place of an index among the keys of a unit's cohort of the table at a place: its own where they aren't scrambled

@@ -2,7 +2,7 @@
 use Rattle.std.specs.Prelude.{ℕ, ◌+◌, ◌*◌, ◌/◌, ◌%◌, Bool, if◌then◌else◌, List, length, Some, None, sum}
 use Rattle.id_permutation.specs.Order.{Arrangement, place_in}
 use Rattle.weight_tables.specs.Weights.{selected}
-use Rattle.schema_plan.specs.References.{Reference}
+use Rattle.schema_facts.specs.References.{Reference}
 
 -- which of so many candidates a place chooses: each turn of the spread's weights goes once over as many candidates as it has
 -- weights, and gives each as many places as its weight says

@@ -3,11 +3,11 @@ use Rattle.std.specs.Prelude.{ℕ, ◌+◌, ◌-◌, ◌%◌, Bool, true, nat_le
 use Rattle.std.specs.List.{range_with_len}
 use Rattle.std.specs.Option.{option_map}
 use Rattle.philox_seeds.specs.SeedTree.{life_column, update_column}
-use Rattle.schema_plan.specs.declared.layout.Span.{Span}
+use Rattle.schema_facts.specs.declared.layout.Span.{Span}
 use Rattle.cohort_sizes.specs.Births.{cohort_size, first_ordinal}
-use Rattle.schema_plan.specs.Layout.{TableLayout}
+use Rattle.schema_facts.specs.Layout.{TableLayout}
 use Rattle.life_intervals.specs.Generator.{Order}
-use Rattle.schema_plan.specs.References.{Reference, references_of}
+use Rattle.schema_facts.specs.References.{Reference, references_of}
 use Rattle.life_intervals.specs.References.{dealt}
 
 -- a row: its place in the order of birth in its table, its birth unit, the unit of its last change, how many units are left to the

@@ -1,7 +1,7 @@
 -- The parents of a run's rows by one reference.
 use Rattle.std.specs.Prelude.{◌≡◌, ◌<◌, ℕ, List, Option, Some, get_or, length}
 use Rattle.schema_plan.specs.declared.ready.ReadyReference.{ReadyReference}
-use Rattle.schema_plan.specs.Dictionaries.{Project}
+use Rattle.schema_facts.specs.Dictionaries.{Project}
 use Rattle.life_intervals.specs.CohortParents.{IsReferenceOf, reference_by}
 use Rattle.life_intervals.specs.Generator.{generator_of, last_unit}
 use Rattle.life_intervals.specs.Intervals.{parent_of}

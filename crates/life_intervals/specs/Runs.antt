@@ -1,7 +1,7 @@
 -- Runs: rows of a table, with the units of their births, in lists of one length.
 use Rattle.std.specs.Prelude.{◌≡◌, ◌<◌, ◌≤◌, ℕ, List, get_or, length}
 use Rattle.cohort_sizes.specs.Births.{LiesIn}
-use Rattle.schema_plan.specs.Dictionaries.{Project}
+use Rattle.schema_facts.specs.Dictionaries.{Project}
 use Rattle.life_intervals.specs.Generator.{table_of}
 
 -- rows of the table at a place, by their ordinals, that are born by a unit, each at the unit that stands beside it

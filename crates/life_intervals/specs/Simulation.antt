@@ -2,10 +2,10 @@
 use Rattle.std.specs.Prelude.{ℕ, zero, suc, ◌-◌, ◌==◌, Bool, false, not, ◌&&◌, ◌||◌, if◌then◌else◌, List, [], ◌++◌, filter_map, map, zip, slice_index_or, Option, Some, None}
 use Rattle.std.specs.List.{list_all, list_any}
 use Rattle.std.specs.Option.{option_map}
-use Rattle.schema_plan.specs.InTurn.{in_turn}
-use Rattle.schema_plan.specs.Layout.{TableLayout}
+use Rattle.schema_facts.specs.InTurn.{in_turn}
+use Rattle.schema_facts.specs.Layout.{TableLayout}
 use Rattle.life_intervals.specs.Generator.{Generator, Order}
-use Rattle.schema_plan.specs.References.{Reference, references_of}
+use Rattle.schema_facts.specs.References.{Reference, references_of}
 use Rattle.life_intervals.specs.Rows.{Row, State, cohort}
 
 -- ---- a row in a step

@@ -1,10 +1,10 @@
 -- Tables of which the simulation has a closed form.
 use Rattle.std.specs.Prelude.{ℕ, ◌<◌, ◌≤◌, All, IfSome, List, length}
 use Rattle.cohort_sizes.specs.Births.{born_count, cohort_size}
-use Rattle.schema_plan.specs.Layout.{TableLayout, table_at}
+use Rattle.schema_facts.specs.Layout.{TableLayout, table_at}
 use Rattle.schema_plan.specs.Limits.{IsSpan}
-use Rattle.schema_plan.specs.Lineage.{sure_life}
-use Rattle.schema_plan.specs.References.{IsWithinLife, Reference, first_in_window, references_of}
+use Rattle.schema_facts.specs.Lineage.{sure_life}
+use Rattle.schema_facts.specs.References.{IsWithinLife, Reference, first_in_window, references_of}
 
 -- a reference of the table at a place: to an earlier table, in a window within the sure life of its rows, and up to a last unit
 -- there is a row to refer to at each unit at which rows are born

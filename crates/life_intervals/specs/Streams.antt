@@ -1,6 +1,6 @@
 -- What a unit does to the rows of a table.
 use Rattle.std.specs.Prelude.{ℕ, zero, suc, ◌==◌, List, [], filter, take, is_none, slice_index_or}
-use Rattle.schema_plan.specs.Layout.{table_at}
+use Rattle.schema_facts.specs.Layout.{table_at}
 use Rattle.life_intervals.specs.Generator.{Generator}
 use Rattle.life_intervals.specs.Rows.{Row}
 use Rattle.life_intervals.specs.Simulation.{kept, rows_at, simulation, with_deletions, with_updates}

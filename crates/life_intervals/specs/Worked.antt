@@ -2,8 +2,8 @@
 -- place.
 use Rattle.std.specs.Prelude.{ℕ, [], ◌∷◌, Option, Some, None}
 use Rattle.philox_seeds.specs.SeedTree.{field_draw}
-use Rattle.schema_plan.specs.Layout.{layout_of}
-use Rattle.schema_plan.specs.Worked.{sales, talks}
+use Rattle.schema_facts.specs.Layout.{layout_of}
+use Rattle.schema_facts.specs.Worked.{sales, talks}
 use Rattle.life_intervals.specs.declared.children.Block.{Block}
 use Rattle.life_intervals.specs.Generator.{Generator, in_place}
 use Rattle.life_intervals.specs.Rows.{Row}

@@ -3,8 +3,8 @@
 ghost use Rattle.std.specs.Prelude.{◌≡◌, ◌+◌, ◌-◌, ◌*◌, ◌<◌, ◌≤◌, ◌++◌, ◌^◌, OnErr, OnOk, Some, is_some, length, sum, true};
 ghost use Rattle.std.specs.List.{range_with_len};
 ghost use Rattle.id_permutation.specs.Order.{order_steps};
-ghost use Rattle.schema_plan.specs.Lineage.{one_if};
-ghost use Rattle.schema_plan.specs.References.{IsSpread, Reference, reference_at};
+ghost use Rattle.schema_facts.specs.Lineage.{one_if};
+ghost use Rattle.schema_facts.specs.References.{IsSpread, Reference, reference_at};
 ghost use Rattle.life_intervals.specs.Blocks.{block_below, places_choosing, places_of_parent};
 ghost use Rattle.life_intervals.specs.Children.{IsCandidate, candidate_count, child_block, children_of_each, deal_number, number_block};
 ghost use Rattle.life_intervals.specs.CohortParents.{IsReferenceOf, reference_by};

@@ -2,7 +2,7 @@
 
 ghost use Rattle.std.specs.Prelude.{◌≡◌, ◌+◌, ◌*◌, ◌<◌, ◌≤◌, ◌++◌, ◌^◌, All, OnErr, OnOk, drop, length, map, take};
 ghost use Rattle.cohort_sizes.specs.Births.{cohort_size};
-ghost use Rattle.schema_plan.specs.Lineage.{one_if};
+ghost use Rattle.schema_facts.specs.Lineage.{one_if};
 ghost use Rattle.life_intervals.specs.CohortOrders.{do_lives_differ, do_updates_differ, is_drawn};
 ghost use Rattle.life_intervals.specs.FoundAt.{AreAppended, GoesOn, due_at, ending_at, places_leaving, row_at_place, rows_leaving};
 ghost use Rattle.life_intervals.specs.Generator.{last_unit, table_of};

@@ -6,7 +6,7 @@ ghost use Rattle.life_intervals.specs.CohortParents.{IsReferenceOf, deal_by, win
 ghost use Rattle.life_intervals.specs.Generator.{last_unit};
 ghost use Rattle.life_intervals.specs.JobOrders.{AreOrdersOf, entries_of};
 ghost use Rattle.schema_plan.specs.declared.ready.ReadyReference.{ReadyReference};
-ghost use Rattle.schema_plan.specs.Dictionaries.{Project};
+ghost use Rattle.schema_facts.specs.Dictionaries.{Project};
 
 use crate::asked::{asked_tables, least_size};
 use crate::kept::{Room, TableOrders};

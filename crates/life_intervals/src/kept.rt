@@ -5,7 +5,7 @@ ghost use Rattle.life_intervals.specs.CohortOrders.{order_for};
 ghost use Rattle.life_intervals.specs.CohortParents.{IsReferenceOf, deal_by, window_by};
 ghost use Rattle.life_intervals.specs.Generator.{last_unit};
 ghost use Rattle.life_intervals.specs.JobOrders.{AreAllParentOrders, AreParentOrders, AreTableOrders, IsKeptByUnit, entries_of_parent, entries_of_table};
-ghost use Rattle.schema_plan.specs.Dictionaries.{Project};
+ghost use Rattle.schema_facts.specs.Dictionaries.{Project};
 
 use crate::asked::{Asked, are_places_asked, rows_to_one_change, table_entries};
 use crate::births::cohort;

@@ -2,7 +2,7 @@
 //! cohort is drawn.
 
 ghost use Rattle.std.specs.Prelude.{◌≡◌, ◌≢◌, ◌<◌, ◌≤◌, ◌↔◌, ℕ, ◌+◌, ◌^◌, Some, IfSome, IsNone, length};
-ghost use Rattle.schema_plan.specs.Lineage.{one_if};
+ghost use Rattle.schema_facts.specs.Lineage.{one_if};
 ghost use Rattle.life_intervals.specs.Found.{IsFound};
 ghost use Rattle.life_intervals.specs.Generator.{generator_of, last_unit, rows_in_all, table_of};
 ghost use Rattle.life_intervals.specs.Keys.{key_in_cohort, key_of};

@@ -6,10 +6,10 @@ ghost use Rattle.std.specs.Prelude.{◌≡◌, ℕ, ◌+◌, ◌*◌, ◌/◌, �
 ghost use Rattle.std.specs.List.{flat_map, list_all, range_with_len};
 ghost use Rattle.std.specs.List.Sorted.{IsPermutation};
 ghost use Rattle.cohort_sizes.specs.Births.{Births, LiesIn, birth, born_count, cohort_size, first_ordinal, index_at};
-ghost use Rattle.schema_plan.specs.Dictionaries.{Project};
-ghost use Rattle.schema_plan.specs.Layout.{TableLayout, layout_of, table_at};
+ghost use Rattle.schema_facts.specs.Dictionaries.{Project};
+ghost use Rattle.schema_facts.specs.Layout.{TableLayout, layout_of, table_at};
 ghost use Rattle.schema_plan.specs.Limits.{IsInLimits};
-ghost use Rattle.schema_plan.specs.Lineage.{death_cost, longest_life, sure_life};
+ghost use Rattle.schema_facts.specs.Lineage.{death_cost, longest_life, sure_life};
 ghost use Rattle.life_intervals.specs.Blocks.{block_of, places_choosing, places_of};
 ghost use Rattle.life_intervals.specs.Changes.{IsLastChange, IsLastDue, due_by, first_due};
 ghost use Rattle.life_intervals.specs.Children.{IsCandidate, IsInWindow, child_at, child_block, children};
@@ -17,8 +17,8 @@ ghost use Rattle.life_intervals.specs.CohortParents.{asked_for_change, asked_for
 ghost use Rattle.life_intervals.specs.Generator.{Generator, Order, generator_of, last_unit, table_of};
 ghost use Rattle.life_intervals.specs.Intervals.{change_unit, changing, death, dying, first_death, held_parent, interval_state, is_after, is_live, known_of, loss_of, newborn, own_death, parent_of, row_at, rows_of};
 ghost use Rattle.life_intervals.specs.Keys.{OrdersCohorts, key_in_cohort, key_of};
-ghost use Rattle.schema_plan.specs.TableFacts.{change_cost};
-ghost use Rattle.schema_plan.specs.References.{Reference, cascades_of, count_in_window, first_in_window, reference_at, references_of};
+ghost use Rattle.schema_facts.specs.TableFacts.{change_cost};
+ghost use Rattle.schema_facts.specs.References.{Reference, cascades_of, count_in_window, first_in_window, reference_at, references_of};
 ghost use Rattle.life_intervals.specs.References.{choice};
 ghost use Rattle.life_intervals.specs.Rows.{candidates, cohort};
 ghost use Rattle.life_intervals.specs.Simulation.{holds_row, rows_at, simulation};

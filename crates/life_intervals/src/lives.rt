@@ -3,7 +3,7 @@
 ghost use Rattle.std.specs.Prelude.{◌≡◌, ◌+◌, ◌<◌, ◌≤◌, ◌⊎◌, Some, length};
 ghost use Rattle.std.specs.Option.{option_map};
 ghost use Rattle.cohort_sizes.specs.Births.{born_count};
-ghost use Rattle.schema_plan.specs.Lineage.{one_if};
+ghost use Rattle.schema_facts.specs.Lineage.{one_if};
 ghost use Rattle.life_intervals.specs.Changes.{change_span, due_by, last_due};
 ghost use Rattle.life_intervals.specs.CohortLives.{survival_at};
 ghost use Rattle.life_intervals.specs.CohortOrders.{do_lives_differ, do_updates_differ};
@@ -16,7 +16,8 @@ ghost use Rattle.life_intervals.specs.Rows.{life_by};
 use crate::found::{FoundRow, find};
 use crate::orders::Purpose;
 use crate::rows::Rows;
-use schema_plan::{Plan, Span};
+use schema_facts::Span;
+use schema_plan::Plan;
 use std::sync::ledger::Ledger;
 use step_count::Steps;
 

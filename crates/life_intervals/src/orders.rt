@@ -2,7 +2,7 @@
 
 ghost use Rattle.std.specs.Prelude.{◌≡◌, ◌<◌, ◌≤◌, if◌then◌else◌, length, Some, None};
 ghost use Rattle.philox_seeds.specs.SeedTree.{deal_seed};
-ghost use Rattle.schema_plan.specs.Layout.{layout_of};
+ghost use Rattle.schema_facts.specs.Layout.{layout_of};
 ghost use Rattle.life_intervals.specs.CohortOrders.{do_lives_differ, do_updates_differ, is_drawn, order_for, order_seed};
 ghost use Rattle.life_intervals.specs.CohortParents.{IsReferenceOf, deal_by, window_by};
 ghost use Rattle.life_intervals.specs.Generator.{last_unit, table_of};
@@ -13,7 +13,8 @@ use crate::window::CandidateWindow;
 use philox_seeds::{
     deal_seed, key_order_seed, life_order_seed, reference_order_seed, update_order_seed,
 };
-use schema_plan::{Plan, ReadyReference, Span};
+use schema_facts::Span;
+use schema_plan::{Plan, ReadyReference};
 
 /// What a row's place in an order of its cohort decides.
 #[derive(Clone, Copy)]

@@ -3,10 +3,10 @@
 ghost use Rattle.std.specs.Prelude.{◌≡◌, ℕ, ◌+◌, ◌<◌, ◌≤◌, IfSome, Some, false, is_none, is_some, length, true};
 ghost use Rattle.std.specs.List.{list_any};
 ghost use Rattle.cohort_sizes.specs.Births.{born_count};
-ghost use Rattle.schema_plan.specs.Layout.{layout_of};
-ghost use Rattle.schema_plan.specs.Lineage.{choice_cost, death_cost, lesser_life, loss_cost, sure_life};
+ghost use Rattle.schema_facts.specs.Layout.{layout_of};
+ghost use Rattle.schema_facts.specs.Lineage.{choice_cost, death_cost, lesser_life, loss_cost, sure_life};
 ghost use Rattle.schema_plan.specs.Ready.{ready_columns};
-ghost use Rattle.schema_plan.specs.References.{Reference, reference_at};
+ghost use Rattle.schema_facts.specs.References.{Reference, reference_at};
 ghost use Rattle.life_intervals.specs.Changes.{has_nullings, last_change, later_change};
 ghost use Rattle.life_intervals.specs.CohortParents.{IsReferenceOf, asked_for_death, cascades_cost, held_cost, held_in, is_nulling, losses_in, parent_cost, parent_death_in, parent_in, parents_death_in, reference_by};
 ghost use Rattle.life_intervals.specs.Found.{IsFound, cohort_of_row};

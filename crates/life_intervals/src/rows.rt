@@ -22,7 +22,7 @@ pub struct Rows<'a> {
 
 impl<'a> Model for Rows<'a> {
     ghost use Rattle.std.specs.Prelude.{IfSome};
-    ghost use Rattle.schema_plan.specs.Dictionaries.{Project};
+    ghost use Rattle.schema_facts.specs.Dictionaries.{Project};
     ghost use Rattle.life_intervals.specs.JobOrders.{AreOrdersOf};
 
     ghost Value = { Project };

@@ -2,9 +2,9 @@
 
 ghost use Rattle.std.specs.Prelude.{◌≡◌, ◌+◌, ◌-◌, ◌*◌, ◌%◌, ◌^◌, ◌<◌, ◌≤◌, ℕ, All, Some, get_or, length, map, true};
 ghost use Rattle.cohort_sizes.specs.Births.{LiesIn};
-ghost use Rattle.schema_plan.specs.Layout.{layout_of};
+ghost use Rattle.schema_facts.specs.Layout.{layout_of};
 ghost use Rattle.schema_plan.specs.Limits.{IsLife};
-ghost use Rattle.schema_plan.specs.Lineage.{one_if};
+ghost use Rattle.schema_facts.specs.Lineage.{one_if};
 ghost use Rattle.life_intervals.specs.CohortLives.{survival_at};
 ghost use Rattle.life_intervals.specs.CohortOrders.{do_lives_differ};
 ghost use Rattle.life_intervals.specs.CohortParents.{IsReferenceOf, asked_for_death, parent_cost, reference_by};
@@ -20,7 +20,8 @@ use crate::parents::never_dies;
 use crate::rows::Rows;
 use crate::runs::end_of_part;
 use fixed_divisors::FixedDivisor;
-use schema_plan::{Plan, ReadyKind, ReadyReference, Span};
+use schema_facts::Span;
+use schema_plan::{Plan, ReadyKind, ReadyReference};
 use std::sync::ledger::Ledger;
 use step_count::Steps;
 

@@ -1,7 +1,7 @@
 //! The parents of a run's rows, with their units of birth.
 
 ghost use Rattle.std.specs.Prelude.{◌≡◌, ◌<◌, ◌≤◌, ◌+◌, ◌*◌, length};
-ghost use Rattle.schema_plan.specs.Lineage.{choice_cost};
+ghost use Rattle.schema_facts.specs.Lineage.{choice_cost};
 ghost use Rattle.life_intervals.specs.CohortParents.{IsReferenceOf};
 ghost use Rattle.life_intervals.specs.Generator.{last_unit};
 ghost use Rattle.life_intervals.specs.RunParents.{AreParentsOf};

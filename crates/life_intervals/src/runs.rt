@@ -3,8 +3,8 @@
 
 ghost use Rattle.std.specs.Prelude.{◌≡◌, ◌+◌, ◌-◌, ◌*◌, ◌%◌, ◌<◌, ◌≤◌, ◌^◌, ◌⊎◌, ℕ, All, Some, false, get_or, length, map, nat_lt};
 ghost use Rattle.cohort_sizes.specs.Births.{LiesIn, born_count};
-ghost use Rattle.schema_plan.specs.Layout.{layout_of};
-ghost use Rattle.schema_plan.specs.Lineage.{choice_cost, loss_cost, one_if};
+ghost use Rattle.schema_facts.specs.Layout.{layout_of};
+ghost use Rattle.schema_facts.specs.Lineage.{choice_cost, loss_cost, one_if};
 ghost use Rattle.life_intervals.specs.Changes.{change_span, last_due, later_change};
 ghost use Rattle.life_intervals.specs.CohortOrders.{do_lives_differ, do_updates_differ, due_for, is_drawn, place_for};
 ghost use Rattle.life_intervals.specs.CohortParents.{IsReferenceOf, asked_for_change, asked_for_death, parent_cost, reference_by};

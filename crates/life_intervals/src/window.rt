@@ -3,7 +3,7 @@
 ghost use Rattle.std.specs.Prelude.{◌≡◌, ◌+◌, ◌-◌, ◌*◌, ◌<◌, ◌≤◌, ◌^◌, All, length, map, max, sum};
 ghost use Rattle.id_permutation.specs.Order.{order_steps, place_in};
 ghost use Rattle.cohort_sizes.specs.Births.{born_count};
-ghost use Rattle.schema_plan.specs.References.{IsSpread, first_in_window};
+ghost use Rattle.schema_facts.specs.References.{IsSpread, first_in_window};
 ghost use Rattle.life_intervals.specs.CohortParents.{window_by};
 ghost use Rattle.life_intervals.specs.Generator.{last_unit, table_of};
 ghost use Rattle.life_intervals.specs.References.{choice};

@@ -27,11 +27,11 @@ use Rattle.row_text.specs.Fields.{IsDelimiter}
 use Rattle.schema_model.specs.declared.table.Delimiter.{Delimiter}
 use Rattle.schema_model.specs.declared.table.Table.{Table}
 use Rattle.schema_model.specs.declared.table.Delimiter.TheVariants.{Bar, Tab}
-use Rattle.schema_plan.specs.Delimiters.{delimiter_byte}
-use Rattle.schema_plan.specs.Dictionaries.{Project}
-use Rattle.schema_plan.specs.Layout.{layout_of}
+use Rattle.schema_facts.specs.Delimiters.{delimiter_byte}
+use Rattle.schema_facts.specs.Dictionaries.{Project}
+use Rattle.schema_facts.specs.Layout.{layout_of}
 use Rattle.schema_plan.specs.Limits.{IsInLimits}
-use Rattle.schema_plan.specs.Names.{same_text}
+use Rattle.schema_facts.specs.Names.{same_text}
 use Rattle.schema_plan.specs.Rules.{IsAccepted, column_names}
 use Rattle.schema_plan.specs.Planned.{table_named}
 use Rattle.stream_apply.specs.InTurn.{IsAppliedText}

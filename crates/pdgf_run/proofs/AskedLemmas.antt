@@ -1,10 +1,10 @@
 -- The greatest line of an accepted schema's tables.
 use Rattle.std.proofs.Common.{ℕ, zero, suc, ◌<◌, ◌≤◌, List, [], ◌∷◌, fold, get_or, length, max, ap, arith, subst}
 use Rattle.std.proofs.lemmas.List.{get_or_default}
-use Rattle.schema_plan.specs.Dictionaries.{Project}
-use Rattle.schema_plan.specs.Layout.{TableLayout, layout_of, no_table}
+use Rattle.schema_facts.specs.Dictionaries.{Project}
+use Rattle.schema_facts.specs.Layout.{TableLayout, layout_of, no_table}
 use Rattle.schema_plan.specs.Limits.{IsInLimits}
-use Rattle.schema_plan.specs.TableFacts.{line_of_table, max_line, reach}
+use Rattle.schema_facts.specs.TableFacts.{line_of_table, max_line, reach}
 use Rattle.life_intervals.proofs.AcceptedLemmas.{length-tables}
 use Rattle.update_box.proofs.ShareLawLemmas.{key_line-reach}
 

@@ -19,16 +19,16 @@ use Rattle.schema_check.specs.declared.checker.CheckFault.{CheckFault}
 use Rattle.schema_model.specs.declared.column.Column.{Column}
 use Rattle.schema_model.specs.declared.table.Schema.{Schema}
 use Rattle.schema_model.specs.declared.table.Table.{Table}
-use Rattle.schema_plan.specs.Dictionaries.{Project, project_of}
-use Rattle.schema_plan.specs.Layout.{TableLayout, no_table, table_layout}
-use Rattle.schema_plan.specs.Names.{begins_with_letter, is_letter, is_name, is_name_byte, same_text}
+use Rattle.schema_facts.specs.Dictionaries.{Project, project_of}
+use Rattle.schema_facts.specs.Layout.{TableLayout, no_table, table_layout}
+use Rattle.schema_facts.specs.Names.{begins_with_letter, is_letter, is_name, is_name_byte, same_text}
 use Rattle.schema_plan.specs.Rules.{IsAccepted, Keeps, broken_rule, column_names, first_broken, rules}
 use Rattle.schema_plan.specs.Sites.{columns_at}
 use Rattle.schema_plan.specs.declared.broken.Broken.{Broken}
 use Rattle.schema_plan.specs.declared.rules.Rule.TheVariants.{Columns}
 use Rattle.schema_plan.specs.declared.site.Site.TheVariants.{OfColumn}
 use Rattle.schema_read.specs.Schema.{schema_of}
-use Rattle.schema_plan.proofs.Lists.{map-map}
+use Rattle.schema_facts.proofs.Lists.{map-map}
 use Rattle.request_words.specs.declared.usage.Header.{Header}
 use Rattle.update_box.specs.Parts.{parts_at}
 use Rattle.update_box.specs.declared.parts.Content.{Content}

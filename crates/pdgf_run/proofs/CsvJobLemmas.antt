@@ -13,9 +13,9 @@ use Rattle.refusals.specs.declared.refusal.JobFault.TheVariants.{Range}
 use Rattle.request_words.specs.declared.usage.Format.TheVariants.{Csv}
 use Rattle.request_words.specs.declared.usage.OptionName.TheVariants as option
 use Rattle.request_words.specs.declared.usage.Request.{Request}
-use Rattle.schema_plan.specs.Dictionaries.{Project}
-use Rattle.schema_plan.specs.Layout.{layout_of}
-use Rattle.schema_plan.proofs.Lists.{map-map}
+use Rattle.schema_facts.specs.Dictionaries.{Project}
+use Rattle.schema_facts.specs.Layout.{layout_of}
+use Rattle.schema_facts.proofs.Lists.{map-map}
 use Rattle.update_box.specs.Packages.{chosen_places, packages_of, share_file, share_of}
 use Rattle.update_box.specs.Parts.{parts_of}
 use Rattle.update_box.specs.declared.parts.Content.{Content}

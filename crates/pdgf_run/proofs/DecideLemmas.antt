@@ -25,7 +25,7 @@ use Rattle.request_words.specs.declared.usage.Mode.{Mode}
 use Rattle.request_words.specs.declared.usage.Request.{Request}
 use Rattle.request_words.specs.declared.usage.UsageFault.{UsageFault}
 use Rattle.request_words.specs.declared.usage.UsageFault.TheVariants as usage
-use Rattle.schema_plan.specs.Dictionaries.{Dictionary, Project, project_of}
+use Rattle.schema_facts.specs.Dictionaries.{Dictionary, Project, project_of}
 use Rattle.schema_plan.specs.Limits.{IsInLimits}
 use Rattle.schema_read.specs.Schema.{schema_of}
 use Rattle.pdgf_run.specs.Playing.{task_due}

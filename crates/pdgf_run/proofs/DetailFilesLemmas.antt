@@ -8,7 +8,7 @@ use Rattle.std.proofs.lemmas.List.{length-map, map-append}
 use Rattle.std.proofs.lemmas.List.Folds.{flat_map-map}
 use Rattle.pd_outside.specs.Files.{File}
 use Rattle.cohort_sizes.specs.Births.{born_count}
-use Rattle.schema_plan.specs.Dictionaries.{Project}
+use Rattle.schema_facts.specs.Dictionaries.{Project}
 use Rattle.schema_plan.specs.Limits.{IsInLimits}
 use Rattle.life_intervals.specs.Generator.{generator_of, last_unit, table_of}
 use Rattle.life_intervals.specs.Streams.{deleted, updated}
@@ -21,11 +21,12 @@ use Rattle.update_box.proofs.CutLemmas.{package_count-least}
 use Rattle.update_box.proofs.EntryLemmas.{content_count-few, listed-count}
 use Rattle.update_box.proofs.StreamTextLemmas.{deleted-born, updated-born}
 use Rattle.detail_plan.specs.Kept.{Kept, KeepsRules}
-use Rattle.detail_rows.specs.Lines.{detail_deleted_text, detail_inserted_text, detail_text, detail_updated_text, parent_place}
-use Rattle.detail_rows.specs.Packages.{Packages, born_by, count_of, range_text, rows_in, size_born, text_numbered}
+use Rattle.detail_lines.specs.Lines.{detail_deleted_text, detail_inserted_text, detail_text, detail_updated_text, parent_place}
+use Rattle.detail_lines.specs.Rows.{born_by}
+use Rattle.detail_rows.specs.Packages.{Packages, count_of, range_text, rows_in, size_born, text_numbered}
 use Rattle.detail_rows.specs.declared.packer.PackedRows.{PackedRows}
 use Rattle.detail_rows.specs.declared.packer.PackedRows.TheVariants as rows
-use Rattle.detail_rows.proofs.DeclaredLemmas.{parent-below}
+use Rattle.detail_lines.proofs.DeclaredLemmas.{parent-below}
 use Rattle.pdgf_run.proofs.DetailTextLemmas.{all-text, born-text, keys-whole, lines-whole, packages-whole}
 use Rattle.pdgf_run.specs.DueFiles.{contents_of, text_files}
 use Rattle.pdgf_run.specs.Formats.{named_files}

@@ -7,7 +7,7 @@ use Rattle.std.proofs.lemmas.List.Concat.{flat_map-append}
 use Rattle.std.proofs.lemmas.List.Folds.{flat_map-map}
 use Rattle.range_workers.specs.Marks.{texts}
 use Rattle.cohort_sizes.specs.Births.{Births, born_count, first_ordinal}
-use Rattle.schema_plan.specs.Dictionaries.{Project}
+use Rattle.schema_facts.specs.Dictionaries.{Project}
 use Rattle.schema_plan.specs.Limits.{IsInLimits}
 use Rattle.life_intervals.specs.Generator.{Generator, generator_of, last_unit, table_of}
 use Rattle.life_intervals.specs.Intervals.{changing, death, dying, is_at, is_live, living, newborn, row_at}
@@ -25,13 +25,14 @@ use Rattle.update_box.proofs.RangeLemmas.{flat_map-filter_same}
 use Rattle.update_box.proofs.StepLemmas.{deleted-ordinals, updated-ordinals}
 use Rattle.update_box.proofs.StreamTextLemmas.{newborn-alive}
 use Rattle.detail_plan.specs.Kept.{Kept}
-use Rattle.detail_rows.specs.declared.detail_lines.LineKind.{LineKind}
-use Rattle.detail_rows.specs.declared.detail_lines.LineKind.TheVariants.{Whole, KeysAlone}
+use Rattle.detail_lines.specs.declared.detail_lines.LineKind.{LineKind}
+use Rattle.detail_lines.specs.declared.detail_lines.LineKind.TheVariants.{Whole, KeysAlone}
 use Rattle.detail_rows.specs.declared.packer.PackedRows.{PackedRows}
 use Rattle.detail_rows.specs.declared.packer.PackedRows.TheVariants.{All, Born, Keys, Lines}
 use Rattle.philox_seeds.specs.SeedTree.{field_draw}
-use Rattle.detail_rows.specs.Lines.{DetailLayout, count_column, detail_deleted_text, detail_inserted_text, detail_text, detail_updated_text, key_lines_of_row, key_lines_over, layout_beside, line_by, lines_of_draw, lines_over, parent_place}
-use Rattle.detail_rows.specs.Packages.{Packages, born_by, count_of, first_born, listed_text, living_from, range_text, row_text, rows_in, size_born, text_numbered}
+use Rattle.detail_lines.specs.Lines.{DetailLayout, count_column, detail_deleted_text, detail_inserted_text, detail_text, detail_updated_text, key_lines_of_row, key_lines_over, layout_beside, line_by, lines_of_draw, lines_over, parent_place}
+use Rattle.detail_lines.specs.Rows.{born_by, row_text}
+use Rattle.detail_rows.specs.Packages.{Packages, count_of, first_born, listed_text, living_from, range_text, rows_in, size_born, text_numbered}
 use Rattle.detail_rows.proofs.ParentLemmas.{living-more}
 
 -- ---- texts of ranges join where they meet

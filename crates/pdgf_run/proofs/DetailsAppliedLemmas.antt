@@ -26,8 +26,8 @@ use Rattle.request_words.specs.declared.usage.Mode.{Mode}
 use Rattle.request_words.specs.declared.usage.OptionName.TheVariants as option
 use Rattle.request_words.specs.declared.usage.Request.{Request}
 use Rattle.life_intervals.specs.Generator.{last_unit}
-use Rattle.schema_plan.specs.Dictionaries.{Dictionary, Project}
-use Rattle.schema_plan.specs.Layout.{layout_of}
+use Rattle.schema_facts.specs.Dictionaries.{Dictionary, Project}
+use Rattle.schema_facts.specs.Layout.{layout_of}
 use Rattle.schema_plan.specs.Limits.{IsInLimits}
 use Rattle.stream_apply.specs.InTurn.{IsAppliedText}
 use Rattle.stream_apply.specs.declared.key_fields.KeyFields.TheVariants.{Two}
@@ -35,7 +35,7 @@ use Rattle.detail_plan.specs.Kept.{Kept, KeepsRules}
 use Rattle.detail_plan.specs.Rules.{first_broken}
 use Rattle.detail_plan.specs.declared.detail.Detail.{Detail}
 use Rattle.detail_rows.specs.Applying.{detail_streams}
-use Rattle.detail_rows.specs.Lines.{detail_text}
+use Rattle.detail_lines.specs.Lines.{detail_text}
 use Rattle.detail_laws.proofs.ApplyLawLemmas.{units-applied}
 use Rattle.pdgf_run.specs.Details.{declared_of, detail_in, detail_of_text, kept_in, kept_over, kept_with, kept_with_lists, lists_cited, unless_broken}
 use Rattle.pdgf_run.specs.Formats.{made_files}

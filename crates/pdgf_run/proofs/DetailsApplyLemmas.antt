@@ -13,7 +13,7 @@ use Rattle.refusals.specs.declared.refusal.DetailsCause.{DetailsCause}
 use Rattle.refusals.specs.declared.refusal.JobFault.{JobFault}
 use Rattle.refusals.specs.declared.refusal.JobFault.TheVariants as job
 use Rattle.request_words.specs.declared.usage.Request.{Request}
-use Rattle.schema_plan.specs.Dictionaries.{Project}
+use Rattle.schema_facts.specs.Dictionaries.{Project}
 use Rattle.detail_plan.specs.Kept.{Kept}
 use Rattle.pdgf_run.specs.Details.{declaration_names, detail_in, detail_with_words, limit_at, possible_declaration, AsksForDetails, DetailsRead}
 use Rattle.pdgf_run.specs.Jobs.{due_of}

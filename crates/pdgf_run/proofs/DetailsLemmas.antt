@@ -23,7 +23,7 @@ use Rattle.refusals.specs.declared.refusal.DetailsCause.TheVariants as details
 use Rattle.refusals.specs.declared.refusal.DictionaryCause.{DictionaryCause}
 use Rattle.refusals.specs.declared.refusal.DictionaryCause.TheVariants as cause
 use Rattle.refusals.specs.declared.refusal.DictionaryFault.{DictionaryFault}
-use Rattle.schema_plan.specs.Dictionaries.{Dictionary, Project}
+use Rattle.schema_facts.specs.Dictionaries.{Dictionary, Project}
 use Rattle.detail_plan.specs.Kept.{Kept}
 use Rattle.detail_plan.specs.declared.detail.Detail.{Detail}
 use Rattle.pdgf_run.specs.Details.{declaration_names, declared_of, detail_in, detail_of_text, detail_with_words, kept_in, kept_over, kept_with_lists, lists_by, lists_cited, lists_in, lists_named, lists_of, possible_declaration, AsksForDetails, DetailsRead}

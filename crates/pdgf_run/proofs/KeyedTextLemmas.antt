@@ -21,8 +21,8 @@ use Rattle.life_intervals.specs.Keys.{key_of}
 use Rattle.row_lines.specs.Lines.{deleted_text, inserted_text, table_text, updated_text}
 use Rattle.row_text.specs.Fields.{IsDelimiter, escaped_text, field_text}
 use Rattle.row_text.specs.Lines.{line_text}
-use Rattle.schema_plan.specs.Dictionaries.{Project}
-use Rattle.schema_plan.specs.Layout.{layout_of}
+use Rattle.schema_facts.specs.Dictionaries.{Project}
+use Rattle.schema_facts.specs.Layout.{layout_of}
 use Rattle.schema_plan.specs.Limits.{IsInLimits}
 use Rattle.schema_plan.specs.Rules.{column_names}
 use Rattle.stream_apply.specs.KeyedLines.{lines_text}

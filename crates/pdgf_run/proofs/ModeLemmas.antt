@@ -12,7 +12,7 @@ use Rattle.refusals.specs.declared.refusal.JobFault.{JobFault}
 use Rattle.request_words.specs.declared.usage.Mode.TheVariants.{Check, Snapshot, Unit, Row, Apply, Details, DetailsUnit, DetailsApply, Revert}
 use Rattle.request_words.specs.declared.usage.Mode.{Mode}
 use Rattle.request_words.specs.declared.usage.Request.{Request}
-use Rattle.schema_plan.specs.Dictionaries.{Project}
+use Rattle.schema_facts.specs.Dictionaries.{Project}
 use Rattle.pdgf_run.specs.Jobs.{due_of}
 use Rattle.pdgf_run.specs.ReadingList.{AsksInMode, names_in_mode, possible_in_mode}
 use Rattle.pdgf_run.specs.TopCall.{IsLimitTold, LibraryLeft}

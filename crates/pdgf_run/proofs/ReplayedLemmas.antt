@@ -17,7 +17,7 @@ use Rattle.request_words.specs.declared.usage.Header.{Header}
 use Rattle.request_words.specs.declared.usage.Request.{Request}
 use Rattle.pdgf_run.specs.Formats.{AreWritten, each_after, in_directory, made_files, named_files}
 use Rattle.pdgf_run.specs.Jobs.{due_of}
-use Rattle.schema_plan.proofs.Lists.{map-map}
+use Rattle.schema_facts.proofs.Lists.{map-map}
 use Rattle.pdgf_run.specs.Replay.{AreDueFor, AreReadAs, AreReplayed, IsCsvMade, IsFirstFault, IsMadeOf, IsReplayFaultAt, IsReplayedText, IsUnreadRecord, IsUnreplayed, cause_after, fault_after, input_names, inputs_at, inputs_each, named_fault, format_of, records_before, text_headings, text_name}
 use Rattle.pdgf_run.specs.Verdict.{IsDecided}
 use Rattle.pdgf_run.specs.declared.job.Job.{Job}

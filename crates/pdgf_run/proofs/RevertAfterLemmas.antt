@@ -2,8 +2,8 @@
 use Rattle.std.proofs.Common.{◌≡◌, ◌<◌, ◌≤◌, ◌+◌, ℕ, List, ◌∷◌, length, subst, sym}
 use Rattle.life_intervals.specs.Generator.{generator_of, last_unit}
 use Rattle.row_lines.specs.Lines.{table_text}
-use Rattle.schema_plan.specs.Dictionaries.{Project}
-use Rattle.schema_plan.specs.Layout.{layout_of}
+use Rattle.schema_facts.specs.Dictionaries.{Project}
+use Rattle.schema_facts.specs.Layout.{layout_of}
 use Rattle.schema_plan.specs.Limits.{IsInLimits}
 use Rattle.stream_apply.specs.InTurn.{IsAppliedText}
 use Rattle.stream_apply.specs.declared.key_fields.KeyFields.TheVariants.{One}

@@ -11,10 +11,10 @@ use Rattle.pd_outside.specs.Files.{File}
 use Rattle.row_text.specs.Fields.{IsDelimiter, field_text}
 use Rattle.row_text.specs.Lines.{IsLineBody, line_text}
 use Rattle.row_text.proofs.ReadLemmas.{IsLineBody-line_feed}
-use Rattle.schema_plan.specs.Dictionaries.{Project}
-use Rattle.schema_plan.specs.Layout.{layout_of, no_table, table_at}
+use Rattle.schema_facts.specs.Dictionaries.{Project}
+use Rattle.schema_facts.specs.Layout.{layout_of, no_table, table_at}
 use Rattle.schema_plan.specs.Limits.{IsInLimits}
-use Rattle.schema_plan.proofs.Lists.{map-map}
+use Rattle.schema_facts.proofs.Lists.{map-map}
 use Rattle.life_intervals.specs.Generator.{Generator, generator_of, last_unit, table_of}
 use Rattle.life_intervals.specs.Keys.{key_of}
 use Rattle.life_intervals.specs.Rows.{Row}

@@ -13,9 +13,9 @@ use Rattle.pd_outside.specs.Shelf.{Held, finish_files}
 use Rattle.request_words.specs.declared.usage.Request.{Request}
 use Rattle.row_lines.specs.Lines.{table_text}
 use Rattle.sample_tables.specs.Schema.{sample_project}
-use Rattle.schema_plan.specs.Dictionaries.{Project}
-use Rattle.schema_plan.specs.Layout.{layout_of}
-use Rattle.schema_plan.specs.TableFacts.{reach}
+use Rattle.schema_facts.specs.Dictionaries.{Project}
+use Rattle.schema_facts.specs.Layout.{layout_of}
+use Rattle.schema_facts.specs.TableFacts.{reach}
 use Rattle.schema_plan.specs.Limits.{IsInLimits}
 use Rattle.update_box.specs.Packages.{share_of, share_text}
 use Rattle.update_box.specs.Parts.{content_text, name_at, snapshot_contents, unit_contents}

@@ -8,10 +8,10 @@ use Rattle.std.proofs.lemmas.List.Elements.{All-append, All-cons, All-head, All-
 use Rattle.std.proofs.lemmas.List.FromFn.{length-range_with_len}
 use Rattle.std.proofs.lemmas.List.Sums.{sum_by-cons}
 use Rattle.std.proofs.lemmas.Nat.{mul-le}
-use Rattle.schema_plan.specs.Dictionaries.{Project}
-use Rattle.schema_plan.specs.FieldSizes.{size_of}
-use Rattle.schema_plan.specs.Layout.{ColumnLayout, Layout, TableLayout}
-use Rattle.schema_plan.specs.TableFacts.{line_of_table, reach}
+use Rattle.schema_facts.specs.Dictionaries.{Project}
+use Rattle.schema_facts.specs.FieldSizes.{size_of}
+use Rattle.schema_facts.specs.Layout.{ColumnLayout, Layout, TableLayout}
+use Rattle.schema_facts.specs.TableFacts.{line_of_table, reach}
 use Rattle.schema_plan.specs.Limits.{IsInLimits}
 use Rattle.life_intervals.proofs.Ranges.{range_with_len-add}
 use Rattle.sql_lines.specs.Bare.{is_bare}

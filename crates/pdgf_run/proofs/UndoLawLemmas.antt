@@ -11,8 +11,8 @@ use Rattle.std.proofs.lemmas.List.Sums.{count_by-le-length, length-filter}
 use Rattle.row_text.proofs.DigitLemmas.{escaped_text-decimal}
 use Rattle.cohort_sizes.specs.Births.{Births, born_count, cohort_size, first_ordinal}
 use Rattle.cohort_sizes.proofs.CohortLemmas.{born_count-le, born_count-next}
-use Rattle.schema_plan.specs.Dictionaries.{Project}
-use Rattle.schema_plan.specs.Layout.{no_table}
+use Rattle.schema_facts.specs.Dictionaries.{Project}
+use Rattle.schema_facts.specs.Layout.{no_table}
 use Rattle.schema_plan.specs.Limits.{IsInLimits, IsTableInLimits}
 use Rattle.life_intervals.specs.Generator.{Generator, generator_of, last_unit, table_of}
 use Rattle.life_intervals.specs.Intervals.{change_unit, death, dying, is_after, is_at, is_live, newborn, row_at}

@@ -10,8 +10,8 @@ use Rattle.request_words.specs.declared.usage.Header.{Header}
 use Rattle.request_words.specs.declared.usage.OptionName.TheVariants as option
 use Rattle.request_words.specs.declared.usage.Request.{Request}
 use Rattle.schema_model.specs.declared.table.Schema.{Schema}
-use Rattle.schema_plan.specs.Dictionaries.{Project}
-use Rattle.schema_plan.specs.Layout.{layout_of}
+use Rattle.schema_facts.specs.Dictionaries.{Project}
+use Rattle.schema_facts.specs.Layout.{layout_of}
 use Rattle.schema_plan.specs.Rules.{column_names}
 use Rattle.update_box.specs.Packages.{chosen_places, packages_of, share_text}
 use Rattle.update_box.specs.Parts.{Part, parts_of}

@@ -13,7 +13,7 @@ use Rattle.plan_stages.specs.Stages.{in_stage, on_ok}
 use Rattle.refusals.specs.declared.refusal.DetailsCause.{DetailsCause}
 use Rattle.refusals.specs.declared.refusal.DetailsCause.TheVariants as details
 use Rattle.schema_plan.specs.Beside.{ready_beside}
-use Rattle.schema_plan.specs.Dictionaries.{Dictionary, Project}
+use Rattle.schema_facts.specs.Dictionaries.{Dictionary, Project}
 use Rattle.detail_plan.specs.Beside.{columns_beside}
 use Rattle.detail_plan.specs.Kept.{Kept}
 use Rattle.detail_plan.specs.Reading.{declared}

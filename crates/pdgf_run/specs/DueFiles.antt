@@ -3,10 +3,10 @@ use Rattle.std.specs.Prelude.{ℕ, ◌*◌, ◌/◌, List, [], ◌∷◌, Option
 use Rattle.std.specs.Option.{option_map}
 use Rattle.pd_outside.specs.Files.{File}
 use Rattle.schema_model.specs.declared.table.Schema.{Schema}
-use Rattle.schema_plan.specs.Dictionaries.{Project}
-use Rattle.schema_plan.specs.Layout.{layout_of}
+use Rattle.schema_facts.specs.Dictionaries.{Project}
+use Rattle.schema_facts.specs.Layout.{layout_of}
 use Rattle.schema_plan.specs.Planned.{table_named}
-use Rattle.schema_plan.specs.TableFacts.{reach}
+use Rattle.schema_facts.specs.TableFacts.{reach}
 use Rattle.refusals.specs.declared.refusal.JobFault.{JobFault}
 use Rattle.refusals.specs.declared.refusal.JobFault.TheVariants.{Range}
 use Rattle.request_words.specs.declared.usage.OptionName.TheVariants as option

@@ -4,11 +4,11 @@ use Rattle.std.specs.Global.{Global}
 use Rattle.pd_outside.specs.Files.{File}
 use Rattle.request_words.specs.declared.usage.Request.{Request}
 use Rattle.detail_plan.specs.Kept.{KeepsRules}
-use Rattle.detail_rows.specs.Lines.{parent_place}
+use Rattle.detail_lines.specs.Lines.{parent_place}
 use Rattle.life_intervals.specs.Generator.{last_unit}
 use Rattle.life_intervals.specs.JobOrders.{AreOrdersOf}
-use Rattle.schema_plan.specs.Layout.{layout_of}
-use Rattle.schema_plan.specs.TableFacts.{reach}
+use Rattle.schema_facts.specs.Layout.{layout_of}
+use Rattle.schema_facts.specs.TableFacts.{reach}
 use Rattle.update_box.specs.Packages.{IsJobOf, chosen_places}
 use Rattle.update_box.specs.Parts.{Part, snapshot_contents, unit_contents}
 use Rattle.update_box.specs.Prepared.{AreChosen, ArePrepared, IsAmong}

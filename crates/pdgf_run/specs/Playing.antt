@@ -7,7 +7,7 @@ use Rattle.request_words.specs.declared.usage.Mode.TheVariants.{Play}
 use Rattle.request_words.specs.declared.usage.Mode.{Mode}
 use Rattle.request_words.specs.declared.usage.Request.{Request}
 use Rattle.request_words.specs.declared.usage.UsageFault.{UsageFault}
-use Rattle.schema_plan.specs.Dictionaries.{Project}
+use Rattle.schema_facts.specs.Dictionaries.{Project}
 use Rattle.life_intervals.specs.Generator.{generator_of, last_unit}
 use Rattle.life_intervals.specs.JobOrders.{AreOrdersOf}
 use Rattle.row_keeper.specs.Kept.{KeptRows, Statement}

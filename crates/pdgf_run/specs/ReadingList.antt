@@ -10,7 +10,7 @@ use Rattle.request_words.specs.declared.usage.Mode.{Mode}
 use Rattle.request_words.specs.declared.usage.Request.{Request}
 use Rattle.request_words.specs.declared.usage.UsageFault.{UsageFault}
 use Rattle.schema_model.specs.declared.table.Schema.{Schema}
-use Rattle.schema_plan.specs.Dictionaries.{Project, project_of}
+use Rattle.schema_facts.specs.Dictionaries.{Project, project_of}
 use Rattle.schema_read.specs.Schema.{schema_of}
 use Rattle.pdgf_run.specs.Details.{declaration_names, lists_named, possible_declaration}
 use Rattle.pdgf_run.specs.modes.Apply.{paths_asked, paths_possible}

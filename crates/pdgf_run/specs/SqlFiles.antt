@@ -8,9 +8,9 @@ use Rattle.request_words.specs.declared.usage.Format.{Format}
 use Rattle.request_words.specs.declared.usage.Format.TheVariants.{Copy, Csv, Sql}
 use Rattle.request_words.specs.declared.usage.OptionName.TheVariants as option
 use Rattle.request_words.specs.declared.usage.Request.{Request}
-use Rattle.schema_plan.specs.Dictionaries.{Project}
-use Rattle.schema_plan.specs.Layout.{Layout, layout_of}
-use Rattle.schema_plan.specs.TableFacts.{reach}
+use Rattle.schema_facts.specs.Dictionaries.{Project}
+use Rattle.schema_facts.specs.Layout.{Layout, layout_of}
+use Rattle.schema_facts.specs.TableFacts.{reach}
 use Rattle.update_box.specs.Packages.{chosen_places}
 use Rattle.update_box.specs.Parts.{Part, parts_of}
 use Rattle.update_box.specs.declared.parts.Job.{Job}

@@ -16,7 +16,7 @@ use Rattle.refusals.specs.declared.refusal.Refusal.{Refusal}
 use Rattle.refusals.specs.declared.refusal.Refusal.TheVariants as refusal
 use Rattle.request_words.specs.declared.usage.Request.{Request}
 use Rattle.request_words.specs.declared.usage.UsageFault.{UsageFault}
-use Rattle.schema_plan.specs.Dictionaries.{Project}
+use Rattle.schema_facts.specs.Dictionaries.{Project}
 use Rattle.detail_plan.specs.Kept.{Kept}
 use Rattle.pdgf_run.specs.declared.report.Report.{Report}
 use Rattle.pdgf_run.specs.Details as details

@@ -1,6 +1,6 @@
 -- What the laws of undo texts speak of.
 use Rattle.std.specs.Prelude.{ℕ, zero, suc, ◌+◌, List, [], ◌∷◌}
-use Rattle.schema_plan.specs.Dictionaries.{Project}
+use Rattle.schema_facts.specs.Dictionaries.{Project}
 use Rattle.undo_streams.specs.UndoText.{undo_text}
 
 -- the undo texts of the table at a place, of as many units behind one as a count tells, from the last of these down

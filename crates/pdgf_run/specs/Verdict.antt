@@ -16,7 +16,7 @@ use Rattle.request_words.specs.declared.usage.Mode.{Mode}
 use Rattle.request_words.specs.declared.usage.Request.{Request}
 use Rattle.request_words.specs.declared.usage.UsageFault.{UsageFault}
 use Rattle.sample_tables.specs.Schema.{sample_project}
-use Rattle.schema_plan.specs.Dictionaries.{Project}
+use Rattle.schema_facts.specs.Dictionaries.{Project}
 use Rattle.pdgf_run.specs.ReadingList.{reads_schema}
 use Rattle.pdgf_run.specs.modes.Apply.{IsApplyDue}
 use Rattle.pdgf_run.specs.modes.Check.{check_due}

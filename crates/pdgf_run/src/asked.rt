@@ -2,9 +2,9 @@
 
 ghost use Rattle.std.specs.Prelude.{◌≡◌, ◌<◌, ◌≤◌, IfOk, IfSome, nat_lt};
 ghost use Rattle.std.specs.Option.{option_and_then};
-ghost use Rattle.schema_plan.specs.Layout.{layout_of};
+ghost use Rattle.schema_facts.specs.Layout.{layout_of};
 ghost use Rattle.schema_plan.specs.Planned.{table_named};
-ghost use Rattle.schema_plan.specs.TableFacts.{reach};
+ghost use Rattle.schema_facts.specs.TableFacts.{reach};
 ghost use Rattle.life_intervals.specs.Generator.{last_unit};
 ghost use Rattle.update_box.specs.Packages.{IsChoice, IsJobOf};
 ghost use Rattle.sql_lines.specs.Reach.{statement_reach};

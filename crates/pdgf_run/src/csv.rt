@@ -7,7 +7,7 @@ ghost use Rattle.pd_outside.specs.Files.{File};
 ghost use Rattle.pd_outside.specs.Shelf.{HoldsPrefixOf, finish_files};
 ghost use Rattle.refusals.specs.Statuses.{job_status};
 ghost use Rattle.row_text.specs.Fields.{IsDelimiter};
-ghost use Rattle.schema_plan.specs.Layout.{layout_of};
+ghost use Rattle.schema_facts.specs.Layout.{layout_of};
 ghost use Rattle.update_box.specs.Packages.{IsJobOf, chosen_places};
 ghost use Rattle.update_box.specs.Parts.{parts_of};
 ghost use Rattle.pdgf_run.specs.CsvFiles.{IsCsvOfJob, job_headings};

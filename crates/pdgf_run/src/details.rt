@@ -16,8 +16,9 @@ use detail_plan::{
 use pd_outside::{Library, read_whole};
 use plan_stages::read_dictionaries;
 use refusals::DetailsCause;
+use schema_facts::Dictionaries;
 use schema_model::Texts;
-use schema_plan::{Dictionaries, Plan};
+use schema_plan::Plan;
 use std::alloc::Global;
 
 /// The most bytes of a declaration: as many as a schema can have.

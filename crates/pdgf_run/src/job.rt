@@ -1,8 +1,8 @@
 //! What a request comes to, before anything is written.
 
 ghost use Rattle.std.specs.Prelude.{◌≡◌, ◌≤◌, IfOk, Some};
-ghost use Rattle.schema_plan.specs.Layout.{layout_of};
-ghost use Rattle.schema_plan.specs.TableFacts.{reach};
+ghost use Rattle.schema_facts.specs.Layout.{layout_of};
+ghost use Rattle.schema_facts.specs.TableFacts.{reach};
 ghost use Rattle.update_box.specs.Packages.{IsJobOf};
 ghost use Rattle.pdgf_run.specs.DueFiles.{most_page_bytes, page_bytes};
 ghost use Rattle.pdgf_run.specs.Jobs.{CanPack, CanPackBy};

@@ -3,8 +3,8 @@
 ghost use Rattle.std.specs.Prelude.{◌≡◌, ◌+◌, ◌<◌, ◌≤◌, ◌∷◌, ℕ, List, Result, length};
 ghost use Rattle.pd_outside.specs.Files.{File};
 ghost use Rattle.refusals.specs.declared.refusal.Refusal.{Refusal};
-ghost use Rattle.schema_plan.specs.Dictionaries.{Project};
-ghost use Rattle.schema_plan.specs.Layout.{layout_of};
+ghost use Rattle.schema_facts.specs.Dictionaries.{Project};
+ghost use Rattle.schema_facts.specs.Layout.{layout_of};
 ghost use Rattle.schema_plan.specs.Limits.{IsInLimits};
 ghost use Rattle.life_intervals.specs.Generator.{generator_of, last_unit};
 ghost use Rattle.row_lines.specs.Lines.{table_text};

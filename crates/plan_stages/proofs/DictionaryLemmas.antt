@@ -14,7 +14,7 @@ use Rattle.pd_outside.specs.Files.{File, bytes_of}
 use Rattle.pd_outside.specs.Library.{Content, ask, AskedAtMost, AskedPrefixOf}
 use Rattle.pd_outside.specs.declared.faults.ReadFault.{ReadFault}
 use Rattle.pd_outside.specs.declared.faults.ReadFault.TheVariants as reading
-use Rattle.schema_plan.specs.Dictionaries.{Dictionary}
+use Rattle.schema_facts.specs.Dictionaries.{Dictionary}
 use Rattle.plan_stages.specs.DictionaryFiles.{fault_at, names_of, words_named, with_dictionaries, with_dictionary, words_in, words_of}
 use Rattle.plan_stages.specs.Limits.{dictionary_limit}
 use Rattle.plan_stages.specs.PlanNames.{up_to_fault, AskedNone, AsksNames}

@@ -7,7 +7,7 @@ use Rattle.pd_outside.specs.Files.{File, bytes_of}
 use Rattle.pd_outside.specs.Library.{Content, ask, AskedAtMost, AskedPrefixOf}
 use Rattle.refusals.specs.Statuses.{plan_status}
 use Rattle.refusals.specs.declared.refusal.PlanFault.{PlanFault}
-use Rattle.schema_plan.specs.Dictionaries.{Project}
+use Rattle.schema_facts.specs.Dictionaries.{Project}
 use Rattle.schema_read.specs.Schema.{schema_of}
 use Rattle.plan_stages.specs.Limits.{schema_limit}
 use Rattle.plan_stages.specs.PlanNames.{cited_by_read, cited_in, plan_names, possible_names, up_to_fault, AsksForPlan, AsksNames, PlanRead}

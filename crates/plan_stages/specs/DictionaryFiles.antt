@@ -4,7 +4,7 @@ use Rattle.dictionaries.specs.Grammar.{dictionary_of}
 use Rattle.dictionaries.specs.WordList.{WordList}
 use Rattle.pd_outside.specs.Files.{File, bytes_of}
 use Rattle.pd_outside.specs.declared.faults.ReadFault.TheVariants.{TooLong}
-use Rattle.schema_plan.specs.Dictionaries.{Dictionary}
+use Rattle.schema_facts.specs.Dictionaries.{Dictionary}
 use Rattle.refusals.specs.Statuses.{cause_status}
 use Rattle.plan_stages.specs.Limits.{dictionary_limit}
 use Rattle.plan_stages.specs.Stages.{in_stage, on_ok}

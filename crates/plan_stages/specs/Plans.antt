@@ -8,7 +8,7 @@ use Rattle.schema_check.specs.Faults.{citation_refusal, refusal_of}
 use Rattle.schema_check.specs.declared.checker.CheckFault.{CheckFault}
 use Rattle.schema_model.specs.declared.table.Schema.{Schema}
 use Rattle.schema_plan.specs.Citations.{cited_names}
-use Rattle.schema_plan.specs.Dictionaries.{Dictionary, Project, project_of}
+use Rattle.schema_facts.specs.Dictionaries.{Dictionary, Project, project_of}
 use Rattle.schema_read.specs.Schema.{schema_of}
 use Rattle.plan_stages.specs.DictionaryFiles.{with_dictionaries}
 use Rattle.plan_stages.specs.Limits.{dictionary_limit, schema_limit}

@@ -12,8 +12,8 @@ ghost use Rattle.refusals.specs.Statuses.{cause_status, is_free};
 use dictionaries::read_dictionary;
 use pd_outside::{Library, read_whole};
 use refusals::{DictionaryCause, DictionaryFault};
+use schema_facts::Dictionaries;
 use schema_model::Texts;
-use schema_plan::Dictionaries;
 use std::alloc::Global;
 
 /// The most bytes of a dictionary.

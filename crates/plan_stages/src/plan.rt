@@ -14,8 +14,9 @@ use crate::dictionary_files::read_dictionaries;
 use pd_outside::{Library, read_whole};
 use refusals::PlanFault;
 use schema_check::{check, citations};
+use schema_facts::Dictionaries;
 use schema_model::Schema;
-use schema_plan::{Dictionaries, Plan};
+use schema_plan::Plan;
 use schema_read::read_schema;
 use std::alloc::Global;
 

@@ -3,20 +3,20 @@ use Rattle.std.proofs.Common.{◌≡◌, ◌<◌, ◌≤◌, ◌^◌, ℕ, zero,
 use Rattle.std.proofs.lemmas.List.{get_or-map, length-map}
 use Rattle.row_text.specs.Fields.{field_text}
 use Rattle.row_text.proofs.DigitLemmas.{escaped_text-decimal}
-use Rattle.schema_plan.specs.declared.column_facts.ColumnFacts.{ColumnFacts}
+use Rattle.schema_facts.specs.declared.column_facts.ColumnFacts.{ColumnFacts}
 use Rattle.schema_plan.specs.declared.ready.ReadyAfter.{ReadyAfter}
 use Rattle.schema_plan.specs.declared.ready.ReadyColumn.{ReadyColumn}
 use Rattle.schema_plan.specs.declared.ready.ReadyKind.TheVariants.{After, Key, Product, Reference, Sum, Template}
 use Rattle.schema_plan.specs.declared.ready.ReadyPart.{ReadyPart}
 use Rattle.schema_plan.specs.declared.ready.ReadyReference.{ReadyReference}
 use Rattle.cohort_sizes.specs.Births.{cohort_size, first_ordinal}
-use Rattle.schema_plan.specs.ColumnFacts.{field_cost}
-use Rattle.schema_plan.specs.FieldSizes.{size_of}
-use Rattle.schema_plan.specs.Layout.{ColumnLayout, KindLayout, born_kind, case_kind, changed_kind, column_at, key_kind, layout_of, leaf_kind, list_kind, unit_date_kind, after_kind, sum_kind, product_kind, no_column, reference_kind, template_kind}
+use Rattle.schema_facts.specs.ColumnFacts.{field_cost}
+use Rattle.schema_facts.specs.FieldSizes.{size_of}
+use Rattle.schema_facts.specs.Layout.{ColumnLayout, KindLayout, born_kind, case_kind, changed_kind, column_at, key_kind, layout_of, leaf_kind, list_kind, unit_date_kind, after_kind, sum_kind, product_kind, no_column, reference_kind, template_kind}
 use Rattle.schema_plan.specs.Limits.{is_lookup_kind}
-use Rattle.schema_plan.specs.Lineage.{lineages, null_cost_of, one_if}
+use Rattle.schema_facts.specs.Lineage.{lineages, null_cost_of, one_if}
 use Rattle.schema_plan.specs.Ready.{ready_column, ready_columns, ready_kind}
-use Rattle.schema_plan.proofs.FieldFactsLemmas.{IsColumnOf, field_facts-kind}
+use Rattle.schema_facts.proofs.FieldFactsLemmas.{IsColumnOf, field_facts-kind}
 use Rattle.draw_values.specs.CohortValues.{ValuesOf, value_for}
 use Rattle.draw_values.specs.declared.values.Put.TheVariants.{Text, Null}
 use Rattle.draw_values.specs.Values.{is_own, put_of, written}

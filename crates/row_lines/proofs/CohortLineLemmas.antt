@@ -6,20 +6,20 @@ use Rattle.std.proofs.lemmas.List.{take_all}
 use Rattle.std.proofs.lemmas.List.Folds.{fold-map}
 use Rattle.std.proofs.lemmas.List.FromFn.{length-range_with_len}
 use Rattle.std.proofs.lemmas.List.Sums.{sum_by-append, sum_by-cons, sum_by-take-le, sum_by_more}
-use Rattle.schema_plan.specs.declared.column_facts.ColumnFacts.{ColumnFacts}
-use Rattle.schema_plan.specs.declared.lineage.Lineage.{Lineage}
+use Rattle.schema_facts.specs.declared.column_facts.ColumnFacts.{ColumnFacts}
+use Rattle.schema_facts.specs.declared.lineage.Lineage.{Lineage}
 use Rattle.schema_plan.specs.declared.ready.ReadyColumn.{ReadyColumn}
 use Rattle.cohort_sizes.specs.Births.{cohort_size}
-use Rattle.schema_plan.specs.ColumnFacts.{column_facts, column_facts_at, facts_of_kind, field_cost}
-use Rattle.schema_plan.specs.FactsBefore.{no_facts}
-use Rattle.schema_plan.specs.FieldSizes.{size_of}
-use Rattle.schema_plan.specs.Layout.{ColumnLayout, KindLayout, Layout, PartLayout, after_kind, born_kind, case_kind, changed_kind, cited_part, column_at, key_kind, layout_of, leaf_kind, literal_part, lookup_kind, list_kind, no_column, product_kind, reference_kind, sum_kind, table_at, template_kind, unit_date_kind}
-use Rattle.schema_plan.specs.Lineage.{lineages, null_cost_of, null_cost_of_field, null_cost_of_part, one_if}
+use Rattle.schema_facts.specs.ColumnFacts.{column_facts, column_facts_at, facts_of_kind, field_cost}
+use Rattle.schema_facts.specs.FactsBefore.{no_facts}
+use Rattle.schema_facts.specs.FieldSizes.{size_of}
+use Rattle.schema_facts.specs.Layout.{ColumnLayout, KindLayout, Layout, PartLayout, after_kind, born_kind, case_kind, changed_kind, cited_part, column_at, key_kind, layout_of, leaf_kind, literal_part, lookup_kind, list_kind, no_column, product_kind, reference_kind, sum_kind, table_at, template_kind, unit_date_kind}
+use Rattle.schema_facts.specs.Lineage.{lineages, null_cost_of, null_cost_of_field, null_cost_of_part, one_if}
 use Rattle.schema_plan.specs.Limits.{IsInLimits, IsKindInLimits, IsPart, IsTableInLimits}
-use Rattle.schema_plan.specs.TableFacts.{fields_cost, line_cost, max_line}
-use Rattle.schema_plan.proofs.ColumnFactsLemmas.{column_facts_at-is}
-use Rattle.schema_plan.proofs.Lists.{length-in_turn}
-use Rattle.schema_plan.proofs.FieldFactsLemmas.{CitesEarlier, IsColumnOf, cost-template, cost_cited, field_facts-kind}
+use Rattle.schema_facts.specs.TableFacts.{fields_cost, line_cost, max_line}
+use Rattle.schema_facts.proofs.ColumnFactsLemmas.{column_facts_at-is}
+use Rattle.schema_facts.proofs.Lists.{length-in_turn}
+use Rattle.schema_facts.proofs.FieldFactsLemmas.{CitesEarlier, IsColumnOf, cost-template, cost_cited, field_facts-kind}
 use Rattle.life_intervals.specs.CohortParents.{asked_for_change}
 use Rattle.life_intervals.specs.Generator.{generator_of, last_unit}
 use Rattle.cohort_sizes.proofs.CohortLemmas.{cohort-within}

@@ -8,28 +8,28 @@ use Rattle.std.proofs.lemmas.Int.{fits_signed_from_abs, ints}
 use Rattle.row_text.specs.Fields.{field_text}
 use Rattle.cohort_sizes.specs.Births.{born_count, cohort_size}
 use Rattle.cohort_sizes.proofs.CohortLemmas.{birth-later}
-use Rattle.schema_plan.specs.declared.days.Days.{Days}
-use Rattle.schema_plan.specs.declared.numbers.Numbers.{Numbers}
+use Rattle.schema_facts.specs.declared.days.Days.{Days}
+use Rattle.schema_facts.specs.declared.numbers.Numbers.{Numbers}
 use Rattle.schema_plan.specs.declared.ready.ReadyAfter.{ReadyAfter}
 use Rattle.schema_plan.specs.declared.ready.ReadyColumn.{ReadyColumn}
 use Rattle.schema_plan.specs.declared.ready.ReadyKind.TheVariants as kind
 use Rattle.schema_plan.specs.declared.ready.ReadyLookup.{ReadyLookup}
 use Rattle.schema_plan.specs.declared.ready.ReadyReference.{ReadyReference}
-use Rattle.schema_plan.specs.Dictionaries.{Project}
-use Rattle.schema_plan.specs.Choices.{choices}
-use Rattle.schema_plan.specs.ColumnFacts.{field_cost, field_facts}
-use Rattle.schema_plan.specs.Days.{days_after}
-use Rattle.schema_plan.specs.FieldSizes.{size_alone, size_of}
-use Rattle.schema_plan.specs.Lineage.{lineages, null_cost_of}
-use Rattle.schema_plan.specs.Ends.{IsBetween, IsInCalendar}
-use Rattle.schema_plan.specs.Layout.{KindLayout, after_kind, born_kind, case_kind, changed_kind, column_at, key_kind, layout_of, leaf_kind, list_kind, lookup_kind, no_table, product_kind, reference_kind, sum_kind, table_at, template_kind, unit_date_kind}
+use Rattle.schema_facts.specs.Dictionaries.{Project}
+use Rattle.schema_facts.specs.Choices.{choices}
+use Rattle.schema_facts.specs.ColumnFacts.{field_cost, field_facts}
+use Rattle.schema_facts.specs.Days.{days_after}
+use Rattle.schema_facts.specs.FieldSizes.{size_alone, size_of}
+use Rattle.schema_facts.specs.Lineage.{lineages, null_cost_of}
+use Rattle.schema_facts.specs.Ends.{IsBetween, IsInCalendar}
+use Rattle.schema_facts.specs.Layout.{KindLayout, after_kind, born_kind, case_kind, changed_kind, column_at, key_kind, layout_of, leaf_kind, list_kind, lookup_kind, no_table, product_kind, reference_kind, sum_kind, table_at, template_kind, unit_date_kind}
 use Rattle.schema_plan.specs.Limits.{IsAfterRange, IsInLimits, IsKindInLimits, IsLaterDate, IsOfOthersInLimits, IsTableInLimits, IsTotal, is_cited, is_lookup_kind}
-use Rattle.schema_plan.specs.Numbers.{most_decimals, product_of as facts_product, start_from, sum_of as facts_sum, with_operand as with_facts}
+use Rattle.schema_facts.specs.Numbers.{most_decimals, product_of as facts_product, start_from, sum_of as facts_sum, with_operand as with_facts}
 use Rattle.schema_plan.specs.Ready.{ready_kind}
-use Rattle.schema_plan.specs.References.{Reference, reference_at}
-use Rattle.schema_plan.proofs.DayRangeLemmas.{days_between-parts, later-within}
-use Rattle.schema_plan.proofs.FieldFactsLemmas.{IsColumnOf, cost-product, cost-sum, days-after, numbers-product, numbers-sum}
-use Rattle.schema_plan.proofs.NumberLemmas.{sum_of-joined}
+use Rattle.schema_facts.specs.References.{Reference, reference_at}
+use Rattle.schema_facts.proofs.DayRangeLemmas.{days_between-parts, later-within}
+use Rattle.schema_facts.proofs.FieldFactsLemmas.{IsColumnOf, cost-product, cost-sum, days-after, numbers-product, numbers-sum}
+use Rattle.schema_facts.proofs.NumberLemmas.{sum_of-joined}
 use Rattle.draw_values.specs.declared.leaf_numbers.Number.{Number}
 use Rattle.draw_values.specs.CohortValues.{IsDayOf, IsNumberOf, ValuesOf, day_for as own_day_for, number_for as own_number_for, row_for}
 use Rattle.draw_values.proofs.ShortNumberLemmas.{back}

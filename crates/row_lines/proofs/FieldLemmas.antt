@@ -7,7 +7,7 @@ use Rattle.std.specs.Option.{option_map}
 use Rattle.line_pages.specs.Padding.{padded}
 use Rattle.row_text.specs.Fields.{field_text}
 use Rattle.cohort_sizes.specs.Births.{born_count}
-use Rattle.schema_plan.specs.Layout.{ColumnLayout, KindLayout, LeafLayout, PartLayout, born_kind, case_kind, changed_kind, cited_part, column_at, key_kind, leaf_kind, lookup_kind, list_kind, unit_date_kind, after_kind, sum_kind, product_kind, reference_kind, table_at, template_kind}
+use Rattle.schema_facts.specs.Layout.{ColumnLayout, KindLayout, LeafLayout, PartLayout, born_kind, case_kind, changed_kind, cited_part, column_at, key_kind, leaf_kind, lookup_kind, list_kind, unit_date_kind, after_kind, sum_kind, product_kind, reference_kind, table_at, template_kind}
 use Rattle.schema_plan.specs.Limits.{is_cited, is_lookup_kind}
 use Rattle.dictionaries.specs.WordList.{WordList}
 use Rattle.draw_values.specs.Dates.{date_text}

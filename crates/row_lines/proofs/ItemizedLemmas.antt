@@ -3,7 +3,7 @@ use Rattle.std.proofs.Common.{◌≡◌, ◌<◌, ◌≤◌, ℕ, ◌+◌, true,
 use Rattle.std.proofs.lemmas.List.{get_or-append-add, get_or_append_left, get_or-take}
 use Rattle.std.proofs.lemmas.Slice.{take-put_mid}
 use Rattle.row_text.specs.Fields.{field_text}
-use Rattle.schema_plan.specs.Layout.{KindLayout, born_kind, case_kind, changed_kind, column_at, layout_of, leaf_kind, list_kind, unit_date_kind}
+use Rattle.schema_facts.specs.Layout.{KindLayout, born_kind, case_kind, changed_kind, column_at, layout_of, leaf_kind, list_kind, unit_date_kind}
 use Rattle.schema_plan.specs.Ready.{ready_kind}
 use Rattle.draw_values.specs.declared.items.ItemizedField.{ItemizedField}
 use Rattle.draw_values.specs.declared.runs.RunRows.{RunRows}

@@ -4,7 +4,7 @@ use Rattle.std.proofs.lemmas.List.{append_assoc}
 use Rattle.std.proofs.lemmas.List.Folds.{flat_map-map}
 use Rattle.std.specs.List.{range_with_len, flat_map}
 use Rattle.cohort_sizes.specs.Births.{Births, birth, born_count, cohort_size, first_ordinal}
-use Rattle.schema_plan.specs.Layout.{TableLayout, table_at}
+use Rattle.schema_facts.specs.Layout.{TableLayout, table_at}
 use Rattle.life_intervals.specs.Generator.{Generator}
 use Rattle.life_intervals.specs.Intervals.{is_live, living, row_at}
 use Rattle.life_intervals.specs.Keys.{key_in_cohort, key_of}

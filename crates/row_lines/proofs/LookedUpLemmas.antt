@@ -3,10 +3,10 @@ use Rattle.std.proofs.Common.{◌≡◌, ◌<◌, ◌≤◌, ℕ, suc, true, fal
 use Rattle.std.specs.Option.{option_and_then}
 use Rattle.std.proofs.lemmas.Bool.{false≢true}
 use Rattle.cohort_sizes.specs.Births.{Births, birth, born_count}
-use Rattle.schema_plan.specs.Dictionaries.{Project}
-use Rattle.schema_plan.specs.Layout.{after_kind, product_kind, sum_kind, KindLayout, born_kind, case_kind, changed_kind, column_at, key_kind, leaf_kind, lookup_kind, list_kind, unit_date_kind, no_table, reference_kind, template_kind}
+use Rattle.schema_facts.specs.Dictionaries.{Project}
+use Rattle.schema_facts.specs.Layout.{after_kind, product_kind, sum_kind, KindLayout, born_kind, case_kind, changed_kind, column_at, key_kind, leaf_kind, lookup_kind, list_kind, unit_date_kind, no_table, reference_kind, template_kind}
 use Rattle.schema_plan.specs.Limits.{IsCascadeTo, IsInLimits, IsLookup, IsStillColumn, is_lookup_kind}
-use Rattle.schema_plan.specs.References.{IsReferenceInLimits, Reference, reference_at, reference_of}
+use Rattle.schema_facts.specs.References.{IsReferenceInLimits, Reference, reference_at, reference_of}
 use Rattle.life_intervals.specs.Generator.{Generator, generator_of, last_unit, table_of}
 use Rattle.life_intervals.specs.Intervals.{held_parent, is_live, parent_of, row_at}
 use Rattle.life_intervals.specs.Sound.{AreSound}

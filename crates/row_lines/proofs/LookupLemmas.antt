@@ -8,15 +8,15 @@ use Rattle.schema_plan.specs.declared.ready.ReadyKind.{ReadyKind}
 use Rattle.schema_plan.specs.declared.ready.ReadyKind.TheVariants as kind
 use Rattle.schema_plan.specs.declared.ready.ReadyLookup.{ReadyLookup}
 use Rattle.schema_plan.specs.declared.ready.ReadyReference.{ReadyReference}
-use Rattle.schema_plan.specs.ColumnFacts.{field_cost}
-use Rattle.schema_plan.specs.FieldCosts.{choice_cost_of}
-use Rattle.schema_plan.specs.FieldSizes.{size_at, size_in_table, size_of}
-use Rattle.schema_plan.specs.Layout.{ColumnLayout, KindLayout, TableLayout, born_kind, case_kind, changed_kind, column_at, key_kind, layout_of, leaf_kind, lookup_kind, list_kind, no_table, unit_date_kind, after_kind, sum_kind, product_kind, reference_kind, table_at, template_kind}
+use Rattle.schema_facts.specs.ColumnFacts.{field_cost}
+use Rattle.schema_facts.specs.FieldCosts.{choice_cost_of}
+use Rattle.schema_facts.specs.FieldSizes.{size_at, size_in_table, size_of}
+use Rattle.schema_facts.specs.Layout.{ColumnLayout, KindLayout, TableLayout, born_kind, case_kind, changed_kind, column_at, key_kind, layout_of, leaf_kind, lookup_kind, list_kind, no_table, unit_date_kind, after_kind, sum_kind, product_kind, reference_kind, table_at, template_kind}
 use Rattle.schema_plan.specs.Limits.{IsCascadeTo, IsInLimits, IsLookup, IsLookupInLimits, IsStillColumn, IsTableInLimits, is_lookup_kind, is_moving_kind}
-use Rattle.schema_plan.specs.Lineage.{choice_cost, lineages}
+use Rattle.schema_facts.specs.Lineage.{choice_cost, lineages}
 use Rattle.schema_plan.specs.Ready.{ready_kind, ready_reference}
-use Rattle.schema_plan.specs.References.{Reference, reference_at}
-use Rattle.schema_plan.proofs.FieldFactsLemmas.{cost-lookup}
+use Rattle.schema_facts.specs.References.{Reference, reference_at}
+use Rattle.schema_facts.proofs.FieldFactsLemmas.{cost-lookup}
 use Rattle.draw_values.specs.CohortValues.{ValuesOf, is_null_for}
 use Rattle.draw_values.specs.Values.{is_null, unless_null}
 use Rattle.life_intervals.specs.CohortParents.{IsReferenceOf, parent_in, reference_by}

@@ -4,13 +4,13 @@ use std.Path.{fun_ext}
 use Rattle.std.proofs.lemmas.List.{get_or-take, length-map}
 use Rattle.std.proofs.lemmas.List.Elements.{All-head, All-tail}
 use Rattle.std.proofs.lemmas.List.Sums.{sum_by-cons}
-use Rattle.schema_plan.specs.declared.lineage.Lineage.{Lineage}
-use Rattle.schema_plan.specs.Dictionaries.{Project}
-use Rattle.schema_plan.specs.Layout.{ColumnLayout, KindLayout, PartLayout, born_kind, case_kind, changed_kind, cited_part, column_at, key_kind, layout_of, leaf_kind, literal_part, lookup_kind, list_kind, unit_date_kind, after_kind, sum_kind, product_kind, reference_kind, table_layout, template_kind}
+use Rattle.schema_facts.specs.declared.lineage.Lineage.{Lineage}
+use Rattle.schema_facts.specs.Dictionaries.{Project}
+use Rattle.schema_facts.specs.Layout.{ColumnLayout, KindLayout, PartLayout, born_kind, case_kind, changed_kind, cited_part, column_at, key_kind, layout_of, leaf_kind, literal_part, lookup_kind, list_kind, unit_date_kind, after_kind, sum_kind, product_kind, reference_kind, table_layout, template_kind}
 use Rattle.schema_plan.specs.Limits.{CitesStill, IsInLimits, IsStillPart, is_moving_kind}
-use Rattle.schema_plan.specs.Lineage.{endless, lineages, null_cost, null_cost_of, null_cost_of_field, null_cost_of_part}
-use Rattle.schema_plan.specs.References.{IsReferenceInLimits, reference_of}
-use Rattle.schema_plan.proofs.LineageLemmas.{lineage_at-lineages}
+use Rattle.schema_facts.specs.Lineage.{endless, lineages, null_cost, null_cost_of, null_cost_of_field, null_cost_of_part}
+use Rattle.schema_facts.specs.References.{IsReferenceInLimits, reference_of}
+use Rattle.schema_facts.proofs.LineageLemmas.{lineage_at-lineages}
 use Rattle.life_intervals.specs.Generator.{last_unit, table_of}
 use Rattle.life_intervals.proofs.ReferenceLemmas.{at_column, reference_at-within}
 use Rattle.row_lines.proofs.StillLemmas.{still_parts}

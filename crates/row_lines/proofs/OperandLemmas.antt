@@ -9,12 +9,12 @@ use Rattle.std.proofs.lemmas.List.{get_or-map, length-map, take-append-drop, tak
 use Rattle.std.proofs.lemmas.List.Folds.{fold-map}
 use Rattle.std.proofs.lemmas.List.Sums.{fold_more}
 use Rattle.std.specs.Prelude.{IfSome, drop}
-use Rattle.schema_plan.specs.declared.numbers.Numbers.{Numbers}
-use Rattle.schema_plan.specs.Ends.{IsInRange, IsWithin}
-use Rattle.schema_plan.specs.FieldSizes.{greatest_by}
-use Rattle.schema_plan.specs.Numbers.{joined, product_end, scaled, sum_end, with_operand as with_facts, most_decimals, decimals_of as digits_of, lesser, greater}
-use Rattle.schema_plan.proofs.NumberLemmas.{joined-digits, known_so_far, plus-digits}
-use Rattle.schema_plan.proofs.NumberRangeLemmas.{plus-within, times-within}
+use Rattle.schema_facts.specs.declared.numbers.Numbers.{Numbers}
+use Rattle.schema_facts.specs.Ends.{IsInRange, IsWithin}
+use Rattle.schema_facts.specs.FieldSizes.{greatest_by}
+use Rattle.schema_facts.specs.Numbers.{joined, product_end, scaled, sum_end, with_operand as with_facts, most_decimals, decimals_of as digits_of, lesser, greater}
+use Rattle.schema_facts.proofs.NumberLemmas.{joined-digits, known_so_far, plus-digits}
+use Rattle.schema_facts.proofs.NumberRangeLemmas.{plus-within, times-within}
 use Rattle.draw_values.specs.declared.leaf_numbers.Number.{Number}
 use Rattle.draw_values.specs.CohortValues.{IsNumberOf}
 use Rattle.row_lines.specs.declared.derived.Join.{Join}

@@ -12,7 +12,7 @@ use Rattle.line_pages.specs.Pages.{Page}
 use Rattle.line_pages.proofs.PaddingLemmas.{sign-within}
 use Rattle.row_text.specs.Fields.{escaped, escaped_text}
 use Rattle.row_text.proofs.EscapeLemmas.{escaped-digit}
-use Rattle.schema_plan.specs.Layout.{ColumnLayout, KindLayout, LeafLayout, born_kind, changed_kind, column_at, int_leaf, key_kind, leaf_kind, reference_kind, skew_leaf, table_at}
+use Rattle.schema_facts.specs.Layout.{ColumnLayout, KindLayout, LeafLayout, born_kind, changed_kind, column_at, int_leaf, key_kind, leaf_kind, reference_kind, skew_leaf, table_at}
 use Rattle.schema_plan.specs.Limits.{IsFilled, is_whole_kind, is_whole_leaf}
 use Rattle.draw_values.specs.declared.values.Put.TheVariants.{Text, Null}
 use Rattle.draw_values.specs.Values.{Draws, is_null, leaf_value, put_of, written}

@@ -12,8 +12,8 @@ use Rattle.schema_plan.specs.declared.ready.ReadyKind.TheVariants.{Key, Referenc
 use Rattle.schema_plan.specs.declared.ready.ReadyPart.{ReadyPart}
 use Rattle.schema_plan.specs.declared.ready.ReadyReference.{ReadyReference}
 use Rattle.cohort_sizes.specs.Births.{cohort_size}
-use Rattle.schema_plan.specs.FieldSizes.{size_alone, size_of, size_of_part}
-use Rattle.schema_plan.specs.Layout.{ColumnLayout, KindLayout, PartLayout, TableLayout, born_kind, changed_kind, cited_part, column_at, key_kind, layout_of, leaf_kind, list_kind, unit_date_kind, after_kind, sum_kind, product_kind, literal_part, reference_kind, template_kind}
+use Rattle.schema_facts.specs.FieldSizes.{size_alone, size_of, size_of_part}
+use Rattle.schema_facts.specs.Layout.{ColumnLayout, KindLayout, PartLayout, TableLayout, born_kind, changed_kind, cited_part, column_at, key_kind, layout_of, leaf_kind, list_kind, unit_date_kind, after_kind, sum_kind, product_kind, literal_part, reference_kind, template_kind}
 use Rattle.schema_plan.specs.Limits.{AreFilledParts, AreParts, IsFilledPart, IsKindInLimits, IsPart, is_cited}
 use Rattle.schema_plan.specs.Ready.{ready_kind, ready_part}
 use Rattle.draw_values.specs.CohortValues.{ValuesOf, is_null_for, value_for}

@@ -8,15 +8,15 @@ use Rattle.row_text.specs.Fields.{field_text, escaped_text}
 use Rattle.row_text.proofs.DigitLemmas.{escaped_text-decimal}
 use Rattle.cohort_sizes.specs.Births.{Births, birth, born_count, cohort_size, first_ordinal, index_at}
 use Rattle.schema_plan.specs.declared.ready.ReadyReference.{ReadyReference}
-use Rattle.schema_plan.specs.Dictionaries.{Project}
-use Rattle.schema_plan.specs.ColumnFacts.{field_cost}
-use Rattle.schema_plan.specs.FieldSizes.{size_of}
-use Rattle.schema_plan.specs.Layout.{ColumnLayout, KindLayout, TableLayout, column_at, layout_of, reference_kind, table_at}
+use Rattle.schema_facts.specs.Dictionaries.{Project}
+use Rattle.schema_facts.specs.ColumnFacts.{field_cost}
+use Rattle.schema_facts.specs.FieldSizes.{size_of}
+use Rattle.schema_facts.specs.Layout.{ColumnLayout, KindLayout, TableLayout, column_at, layout_of, reference_kind, table_at}
 use Rattle.schema_plan.specs.Limits.{IsInLimits, IsTableInLimits}
-use Rattle.schema_plan.specs.Lineage.{choice_cost, death_cost, lineages, null_cost_of, one_if, sure_life}
-use Rattle.schema_plan.specs.References.{Reference, reference_at, reference_of, references_of}
-use Rattle.schema_plan.specs.declared.column_facts.ColumnFacts.{ColumnFacts}
-use Rattle.schema_plan.proofs.FieldFactsLemmas.{field_facts-kind}
+use Rattle.schema_facts.specs.Lineage.{choice_cost, death_cost, lineages, null_cost_of, one_if, sure_life}
+use Rattle.schema_facts.specs.References.{Reference, reference_at, reference_of, references_of}
+use Rattle.schema_facts.specs.declared.column_facts.ColumnFacts.{ColumnFacts}
+use Rattle.schema_facts.proofs.FieldFactsLemmas.{field_facts-kind}
 use Rattle.life_intervals.specs.CohortParents.{IsReferenceOf, held_cost, loss_in, parent_cost, reference_by}
 use Rattle.life_intervals.specs.Generator.{Generator, generator_of, last_unit, table_of}
 use Rattle.life_intervals.specs.Intervals.{Known, held_parent, held_until, is_after, known_tables, loss_by, loss_of, parent_by, parent_of, row_at}

@@ -6,12 +6,12 @@ use Rattle.std.proofs.lemmas.Option.{same_Some}
 use Rattle.line_pages.specs.Pages.{Page}
 use Rattle.philox_seeds.specs.SeedTree.{life_column}
 use Rattle.cohort_sizes.specs.Births.{Births, born_count, index_at}
-use Rattle.schema_plan.specs.declared.layout.Span.{Span}
-use Rattle.schema_plan.specs.Dictionaries.{Project}
-use Rattle.schema_plan.specs.Layout.{table_at}
+use Rattle.schema_facts.specs.declared.layout.Span.{Span}
+use Rattle.schema_facts.specs.Dictionaries.{Project}
+use Rattle.schema_facts.specs.Layout.{table_at}
 use Rattle.schema_plan.specs.Limits.{IsInLimits, IsSpan}
-use Rattle.schema_plan.specs.Lineage.{sure_life}
-use Rattle.schema_plan.specs.References.{cascades_of}
+use Rattle.schema_facts.specs.Lineage.{sure_life}
+use Rattle.schema_facts.specs.References.{cascades_of}
 use Rattle.life_intervals.specs.Generator.{Generator, generator_of, last_unit, rows_in_all}
 use Rattle.life_intervals.specs.Intervals.{Known, change_unit, death, is_after, is_live, known_tables, row_at}
 use Rattle.life_intervals.specs.Keys.{key_of}

@@ -4,8 +4,8 @@ use Rattle.std.specs.Prelude.{if◌then◌else◌}
 use Rattle.std.specs.List.{list_any}
 use Rattle.std.proofs.lemmas.Bool.{cases_Bool, cases_eq, cases_lt, le-ltb, lt-ltb, or_parts, true≢false}
 use Rattle.cohort_sizes.specs.Births.{Births, birth, born_count, first_ordinal, index_at}
-use Rattle.schema_plan.specs.Layout.{TableLayout, table_at}
-use Rattle.schema_plan.specs.References.{Reference, references_of}
+use Rattle.schema_facts.specs.Layout.{TableLayout, table_at}
+use Rattle.schema_facts.specs.References.{Reference, references_of}
 use Rattle.life_intervals.specs.Changes.{change_by, due_by, first_due, last_change, wait_by}
 use Rattle.life_intervals.specs.Generator.{Generator}
 use Rattle.life_intervals.specs.Intervals.{Known, change_unit, held_parent, held_until, is_after, is_at, known_tables, loss_by, loss_of, parent_of, row_at}

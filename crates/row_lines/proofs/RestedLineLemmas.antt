@@ -3,8 +3,8 @@ use Rattle.std.proofs.Common.{◌≡◌, ◌<◌, ◌≤◌, ℕ, suc, ◌+◌, 
 use Rattle.std.proofs.lemmas.Bool.{cases_Bool}
 use Rattle.row_text.specs.Fields.{field_text}
 use Rattle.cohort_sizes.specs.Births.{Births, born_count}
-use Rattle.schema_plan.specs.Dictionaries.{Project}
-use Rattle.schema_plan.specs.Layout.{KindLayout, column_at}
+use Rattle.schema_facts.specs.Dictionaries.{Project}
+use Rattle.schema_facts.specs.Layout.{KindLayout, column_at}
 use Rattle.schema_plan.specs.Limits.{IsInLimits, IsLookup, IsLookupInLimits, is_lookup_kind}
 use Rattle.draw_values.specs.Values.{Draws, unless_null}
 use Rattle.life_intervals.specs.Generator.{Generator, generator_of, last_unit, table_of}

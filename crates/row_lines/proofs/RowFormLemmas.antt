@@ -2,7 +2,7 @@
 use Rattle.std.proofs.Common.{◌≡◌, ◌+ℤ◌, ℕ, ℤ, zero, suc, List, [], ◌∷◌, ◌++◌, flat_map, map, Option, Some, unwrap_or, refl, ap, ap₂}
 use Rattle.std.specs.Option.{option_map}
 use Rattle.line_pages.specs.Padding.{padded}
-use Rattle.schema_plan.specs.Layout.{ColumnLayout, KindLayout, PartLayout, after_kind, born_kind, case_kind, changed_kind, cited_part, column_at, key_kind, leaf_kind, list_kind, literal_part, lookup_kind, product_kind, reference_kind, sum_kind, table_at, template_kind, unit_date_kind}
+use Rattle.schema_facts.specs.Layout.{ColumnLayout, KindLayout, PartLayout, after_kind, born_kind, case_kind, changed_kind, cited_part, column_at, key_kind, leaf_kind, list_kind, literal_part, lookup_kind, product_kind, reference_kind, sum_kind, table_at, template_kind, unit_date_kind}
 use Rattle.draw_values.specs.declared.leaf_numbers.Number.{Number}
 use Rattle.draw_values.specs.Dates.{date_text}
 use Rattle.draw_values.specs.Values.{chosen, number_text, unless_null}

@@ -11,14 +11,14 @@ use Rattle.row_text.proofs.DigitLemmas.{escaped_text-decimal}
 use Rattle.cohort_sizes.specs.Births.{LiesIn, birth, born_count}
 use Rattle.cohort_sizes.proofs.CohortLemmas.{birth-only, cohort-within}
 use Rattle.schema_plan.specs.declared.ready.ReadyReference.{ReadyReference}
-use Rattle.schema_plan.specs.Dictionaries.{Project}
-use Rattle.schema_plan.specs.Layout.{ColumnLayout, KindLayout, born_kind, case_kind, changed_kind, column_at, key_kind, layout_of, leaf_kind, lookup_kind, list_kind, unit_date_kind, after_kind, sum_kind, product_kind, no_column, reference_kind, table_at, template_kind}
-use Rattle.schema_plan.specs.FieldSizes.{size_of}
+use Rattle.schema_facts.specs.Dictionaries.{Project}
+use Rattle.schema_facts.specs.Layout.{ColumnLayout, KindLayout, born_kind, case_kind, changed_kind, column_at, key_kind, layout_of, leaf_kind, lookup_kind, list_kind, unit_date_kind, after_kind, sum_kind, product_kind, no_column, reference_kind, table_at, template_kind}
+use Rattle.schema_facts.specs.FieldSizes.{size_of}
 use Rattle.schema_plan.specs.Limits.{IsInLimits, IsTableInLimits, is_lookup_kind}
-use Rattle.schema_plan.specs.Lineage.{one_if}
+use Rattle.schema_facts.specs.Lineage.{one_if}
 use Rattle.schema_plan.specs.Ready.{ready_kind}
-use Rattle.schema_plan.specs.References.{Reference, reference_at}
-use Rattle.schema_plan.specs.TableFacts.{line_cost, max_line}
+use Rattle.schema_facts.specs.References.{Reference, reference_at}
+use Rattle.schema_facts.specs.TableFacts.{line_cost, max_line}
 use Rattle.draw_values.specs.declared.runs.RunRows.{RunRows}
 use Rattle.draw_values.specs.Runs.{AreRunRows, is_short}
 use Rattle.draw_values.specs.Values.{is_own, value_at}

@@ -9,7 +9,7 @@ use Rattle.line_pages.specs.Pieces.{piece_text}
 use Rattle.line_pages.specs.Rows.{piece_text_at, row_of_pieces, rows_of_pieces}
 use Rattle.row_text.specs.Fields.{field_text}
 use Rattle.row_text.proofs.DigitLemmas.{escaped_text-decimal}
-use Rattle.schema_plan.specs.Dictionaries.{Project}
+use Rattle.schema_facts.specs.Dictionaries.{Project}
 use Rattle.schema_plan.specs.Limits.{IsTableInLimits}
 use Rattle.life_intervals.specs.Generator.{generator_of, last_unit, rows_in_all, table_of}
 use Rattle.life_intervals.specs.Keys.{key_of}

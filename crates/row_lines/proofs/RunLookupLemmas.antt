@@ -10,10 +10,10 @@ use Rattle.schema_plan.specs.declared.ready.ReadyColumn.{ReadyColumn}
 use Rattle.schema_plan.specs.declared.ready.ReadyKind.TheVariants as kind
 use Rattle.schema_plan.specs.declared.ready.ReadyLookup.{ReadyLookup}
 use Rattle.schema_plan.specs.declared.ready.ReadyReference.{ReadyReference}
-use Rattle.schema_plan.specs.Dictionaries.{Project}
-use Rattle.schema_plan.specs.Layout.{column_at, layout_of, no_table}
+use Rattle.schema_facts.specs.Dictionaries.{Project}
+use Rattle.schema_facts.specs.Layout.{column_at, layout_of, no_table}
 use Rattle.schema_plan.specs.Limits.{IsInLimits, IsStillColumn, IsTableInLimits}
-use Rattle.schema_plan.specs.Lineage.{choice_cost}
+use Rattle.schema_facts.specs.Lineage.{choice_cost}
 use Rattle.schema_plan.specs.Ready.{ready_columns}
 use Rattle.draw_values.specs.declared.runs.RunRows.{RunRows}
 use Rattle.draw_values.specs.Runs.{RunColumnOf, is_null_in, null_text, run_column, run_row}

@@ -11,15 +11,15 @@ use Rattle.line_pages.specs.Pieces.{piece_text}
 use Rattle.line_pages.specs.Rows.{piece_text_at}
 use Rattle.row_text.specs.Fields.{field_text}
 use Rattle.cohort_sizes.specs.Births.{first_ordinal}
-use Rattle.schema_plan.specs.declared.numbers.Numbers.{Numbers}
-use Rattle.schema_plan.specs.ColumnFacts.{field_cost, field_facts}
-use Rattle.schema_plan.specs.Ends.{IsInRange}
-use Rattle.schema_plan.specs.FieldSizes.{greatest_by}
-use Rattle.schema_plan.specs.Layout.{KindLayout, column_at, layout_of, leaf_kind, product_kind, sum_kind}
+use Rattle.schema_facts.specs.declared.numbers.Numbers.{Numbers}
+use Rattle.schema_facts.specs.ColumnFacts.{field_cost, field_facts}
+use Rattle.schema_facts.specs.Ends.{IsInRange}
+use Rattle.schema_facts.specs.FieldSizes.{greatest_by}
+use Rattle.schema_facts.specs.Layout.{KindLayout, column_at, layout_of, leaf_kind, product_kind, sum_kind}
 use Rattle.schema_plan.specs.Limits.{IsInLimits, IsTableInLimits, is_cited, is_lookup_kind}
-use Rattle.schema_plan.specs.Lineage.{lineages, null_cost_of}
-use Rattle.schema_plan.specs.Numbers.{decimals_of, scaled, start_from}
-use Rattle.schema_plan.proofs.NumberLemmas.{added-digits}
+use Rattle.schema_facts.specs.Lineage.{lineages, null_cost_of}
+use Rattle.schema_facts.specs.Numbers.{decimals_of, scaled, start_from}
+use Rattle.schema_facts.proofs.NumberLemmas.{added-digits}
 use Rattle.draw_values.specs.declared.leaf_numbers.Number.{Number}
 use Rattle.draw_values.specs.declared.runs.RunRows.{RunRows}
 use Rattle.draw_values.specs.declared.values.RowAt.{RowAt}

@@ -7,9 +7,9 @@ use Rattle.line_pages.specs.Rows.{piece_text_at}
 use Rattle.row_text.specs.Fields.{field_text}
 use Rattle.schema_plan.specs.declared.ready.ReadyAfter.{ReadyAfter}
 use Rattle.schema_plan.specs.declared.ready.ReadyKind.TheVariants as kind
-use Rattle.schema_plan.specs.ColumnFacts.{field_facts}
-use Rattle.schema_plan.specs.Ends.{IsBetween, IsInCalendar}
-use Rattle.schema_plan.specs.Layout.{KindLayout, after_kind, born_kind, case_kind, changed_kind, column_at, key_kind, layout_of, leaf_kind, list_kind, lookup_kind, product_kind, reference_kind, sum_kind, template_kind, unit_date_kind}
+use Rattle.schema_facts.specs.ColumnFacts.{field_facts}
+use Rattle.schema_facts.specs.Ends.{IsBetween, IsInCalendar}
+use Rattle.schema_facts.specs.Layout.{KindLayout, after_kind, born_kind, case_kind, changed_kind, column_at, key_kind, layout_of, leaf_kind, list_kind, lookup_kind, product_kind, reference_kind, sum_kind, template_kind, unit_date_kind}
 use Rattle.schema_plan.specs.Limits.{is_lookup_kind}
 use Rattle.schema_plan.specs.Ready.{ready_kind}
 use Rattle.draw_values.specs.declared.runs.RunRows.{RunRows}

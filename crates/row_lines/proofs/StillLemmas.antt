@@ -7,9 +7,9 @@ use Rattle.std.proofs.lemmas.List.{get_or_past}
 use Rattle.std.proofs.lemmas.List.Elements.{All-head, All-nil, All-tail}
 use Rattle.line_pages.specs.Padding.{padded}
 use Rattle.cohort_sizes.specs.Births.{first_ordinal}
-use Rattle.schema_plan.specs.Layout.{ColumnLayout, KindLayout, PartLayout, TableLayout, born_kind, case_kind, changed_kind, cited_part, column_at, key_kind, leaf_kind, literal_part, lookup_kind, list_kind, no_column, unit_date_kind, after_kind, sum_kind, product_kind, reference_kind, table_at, template_kind}
+use Rattle.schema_facts.specs.Layout.{ColumnLayout, KindLayout, PartLayout, TableLayout, born_kind, case_kind, changed_kind, cited_part, column_at, key_kind, leaf_kind, literal_part, lookup_kind, list_kind, no_column, unit_date_kind, after_kind, sum_kind, product_kind, reference_kind, table_at, template_kind}
 use Rattle.schema_plan.specs.Limits.{CitesStill, IsCascadeTo, IsKindInLimits, IsLookupInLimits, IsPart, IsStillPlace, IsStillPart, IsTableInLimits, is_moving_kind, moves}
-use Rattle.schema_plan.specs.References.{Reference, reference_at, reference_of}
+use Rattle.schema_facts.specs.References.{Reference, reference_at, reference_of}
 use Rattle.draw_values.specs.declared.leaf_numbers.Number.{Number}
 use Rattle.draw_values.specs.Dates.{date_text}
 use Rattle.draw_values.specs.Values.{Draws, branch_at, chosen, entry_in_turn, held_entry, leaf_day, leaf_number, leaf_value, number_text, unless_null}

@@ -1,8 +1,8 @@
 -- What is read of a row in columns that don't move.
 use Rattle.std.proofs.Common.{◌≡◌, ◌≤◌, ℕ, suc, false, refl, ap, subst, sym, ◌∙◌}
-use Rattle.schema_plan.specs.ColumnFacts.{field_cost}
-use Rattle.schema_plan.specs.FieldSizes.{size_at}
-use Rattle.schema_plan.specs.Layout.{layout_of}
+use Rattle.schema_facts.specs.ColumnFacts.{field_cost}
+use Rattle.schema_facts.specs.FieldSizes.{size_at}
+use Rattle.schema_facts.specs.Layout.{layout_of}
 use Rattle.schema_plan.specs.Limits.{IsStillColumn}
 use Rattle.draw_values.specs.CohortValues.{ValuesOf}
 use Rattle.life_intervals.specs.Generator.{generator_of, last_unit, table_of}

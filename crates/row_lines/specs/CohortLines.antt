@@ -4,12 +4,12 @@ use Rattle.std.specs.List.{range_with_len}
 use Rattle.std.specs.Option.{option_map}
 use Rattle.row_text.specs.Fields.{field_text}
 use Rattle.cohort_sizes.specs.Births.{first_ordinal}
-use Rattle.schema_plan.specs.ColumnFacts.{field_cost}
-use Rattle.schema_plan.specs.FieldSizes.{size_of}
-use Rattle.schema_plan.specs.Layout.{PartLayout, literal_part, cited_part, KindLayout, key_kind, template_kind, lookup_kind, Layout, TableLayout, column_at, layout_of, table_at}
+use Rattle.schema_facts.specs.ColumnFacts.{field_cost}
+use Rattle.schema_facts.specs.FieldSizes.{size_of}
+use Rattle.schema_facts.specs.Layout.{PartLayout, literal_part, cited_part, KindLayout, key_kind, template_kind, lookup_kind, Layout, TableLayout, column_at, layout_of, table_at}
 use Rattle.schema_plan.specs.Limits.{IsInLimits, IsTableInLimits}
-use Rattle.schema_plan.specs.Lineage.{lineages, null_cost_of}
-use Rattle.schema_plan.specs.Dictionaries.{Project}
+use Rattle.schema_facts.specs.Lineage.{lineages, null_cost_of}
+use Rattle.schema_facts.specs.Dictionaries.{Project}
 use Rattle.schema_plan.specs.declared.ready.ReadyColumn.{ReadyColumn}
 use Rattle.schema_plan.specs.Ready.{ready_columns}
 use Rattle.draw_values.specs.CohortValues.{ValuesOf}
@@ -17,7 +17,7 @@ use Rattle.life_intervals.specs.Generator.{generator_of, last_unit, table_of}
 use Rattle.life_intervals.specs.Intervals.{change_unit, is_live, row_at}
 use Rattle.life_intervals.specs.Keys.{key_in_cohort, key_of}
 use Rattle.life_intervals.specs.CohortParents.{held_in, parent_in}
-use Rattle.schema_plan.specs.References.{Reference}
+use Rattle.schema_facts.specs.References.{Reference}
 use Rattle.life_intervals.specs.Rows.{Row}
 use Rattle.row_lines.specs.Lines.{field, field_in_table, line_of}
 

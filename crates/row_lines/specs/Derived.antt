@@ -3,9 +3,9 @@
 use Rattle.std.specs.Prelude.{ℕ, zero, suc, ℤ, pos, ◌+◌, ◌*◌, ◌-◌, ◌+ℤ◌, ◌*ℤ◌, List, map, Option, Some, None}
 use Rattle.std.specs.List.{fold}
 use Rattle.std.specs.Option.{option_and_then, option_map}
-use Rattle.schema_plan.specs.FieldSizes.{greatest_by}
-use Rattle.schema_plan.specs.Layout.{KindLayout, leaf_kind, lookup_kind, unit_date_kind, after_kind, sum_kind, product_kind, table_at, column_at}
-use Rattle.schema_plan.specs.Numbers.{scaled}
+use Rattle.schema_facts.specs.FieldSizes.{greatest_by}
+use Rattle.schema_facts.specs.Layout.{KindLayout, leaf_kind, lookup_kind, unit_date_kind, after_kind, sum_kind, product_kind, table_at, column_at}
+use Rattle.schema_facts.specs.Numbers.{scaled}
 use Rattle.draw_values.specs.declared.leaf_numbers.Number.{Number}
 use Rattle.draw_values.specs.Values.{chosen, leaf_day, leaf_number, unit_day, unless_null}
 use Rattle.life_intervals.specs.Generator.{Generator}

@@ -5,8 +5,8 @@ use Rattle.std.specs.Option.{option_and_then, option_map}
 use Rattle.line_pages.specs.Padding.{padded}
 use Rattle.row_text.specs.Fields.{field_text}
 use Rattle.cohort_sizes.specs.Births.{cohort_size, first_ordinal}
-use Rattle.schema_plan.specs.Dictionaries.{Project}
-use Rattle.schema_plan.specs.Layout.{PartLayout, literal_part, cited_part, KindLayout, key_kind, template_kind, reference_kind, lookup_kind, after_kind, sum_kind, product_kind, table_at, column_at}
+use Rattle.schema_facts.specs.Dictionaries.{Project}
+use Rattle.schema_facts.specs.Layout.{PartLayout, literal_part, cited_part, KindLayout, key_kind, template_kind, reference_kind, lookup_kind, after_kind, sum_kind, product_kind, table_at, column_at}
 use Rattle.draw_values.specs.Dates.{date_text}
 use Rattle.draw_values.specs.Values.{number_text, own_value, unless_null}
 use Rattle.life_intervals.specs.Generator.{Generator, generator_of, last_unit}

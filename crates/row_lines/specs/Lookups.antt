@@ -4,8 +4,8 @@ use Rattle.cohort_sizes.specs.Births.{cohort_size}
 use Rattle.row_text.specs.Fields.{field_text}
 use Rattle.schema_plan.specs.declared.ready.ReadyKind.TheVariants as kind
 use Rattle.schema_plan.specs.declared.ready.ReadyLookup.{ReadyLookup}
-use Rattle.schema_plan.specs.Dictionaries.{Project}
-use Rattle.schema_plan.specs.Layout.{column_at, layout_of}
+use Rattle.schema_facts.specs.Dictionaries.{Project}
+use Rattle.schema_facts.specs.Layout.{column_at, layout_of}
 use Rattle.schema_plan.specs.Limits.{IsInLimits, IsTableInLimits}
 use Rattle.schema_plan.specs.Ready.{ready_kind}
 use Rattle.draw_values.specs.CohortValues.{ValuesOf}

@@ -5,8 +5,8 @@ use Rattle.line_pages.specs.Padding.{padded}
 use Rattle.row_text.specs.Fields.{escaped_text}
 use Rattle.schema_plan.specs.declared.ready.ReadyPart.{ReadyPart}
 use Rattle.schema_plan.specs.declared.ready.ReadyPart.TheVariants as part
-use Rattle.schema_plan.specs.FieldSizes.{size_alone}
-use Rattle.schema_plan.specs.Layout.{layout_of, column_at}
+use Rattle.schema_facts.specs.FieldSizes.{size_alone}
+use Rattle.schema_facts.specs.Layout.{layout_of, column_at}
 use Rattle.schema_plan.specs.Limits.{IsFilled, is_cited}
 use Rattle.draw_values.specs.Values.{written}
 use Rattle.life_intervals.specs.Generator.{generator_of}

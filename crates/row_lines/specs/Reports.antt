@@ -2,8 +2,8 @@
 use Rattle.std.specs.Prelude.{ℕ, ◌+◌, ◌-◌, ◌==◌, ◌++◌, Bool, is_none, is_some, nat_le, List, [], find, Option, Some, None, codes, decimal, if◌then◌else◌}
 use Rattle.std.specs.List.{range_with_len}
 use Rattle.std.specs.Option.{option_map}
-use Rattle.schema_plan.specs.Dictionaries.{Project}
-use Rattle.schema_plan.specs.Layout.{table_at}
+use Rattle.schema_facts.specs.Dictionaries.{Project}
+use Rattle.schema_facts.specs.Layout.{table_at}
 use Rattle.life_intervals.specs.Generator.{Generator, generator_of, last_unit, rows_in_all}
 use Rattle.cohort_sizes.specs.Births.{birth}
 use Rattle.life_intervals.specs.Keys.{key_of}

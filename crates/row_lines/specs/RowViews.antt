@@ -1,8 +1,8 @@
 -- What a row is to its own fields: its place and units, what is drawn for it, and its parents.
 use Rattle.std.specs.Prelude.{ℕ, ◌==◌, find, zip, Option}
 use Rattle.std.specs.Option.{option_and_then}
-use Rattle.schema_plan.specs.Layout.{TableLayout, table_at, column_at}
-use Rattle.schema_plan.specs.References.{Reference, references_of}
+use Rattle.schema_facts.specs.Layout.{TableLayout, table_at, column_at}
+use Rattle.schema_facts.specs.References.{Reference, references_of}
 use Rattle.draw_values.specs.declared.values.RowAt.{RowAt}
 use Rattle.draw_values.specs.Values.{RowDraws, draw_unit}
 use Rattle.life_intervals.specs.Generator.{Generator}

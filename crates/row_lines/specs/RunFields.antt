@@ -2,8 +2,8 @@
 use Rattle.std.specs.Prelude.{◌≡◌, ◌<◌, ◌≤◌, ℕ, ◌+◌, true, List, get_or, if◌then◌else◌, length}
 use Rattle.line_pages.specs.declared.piece.Piece.{Piece}
 use Rattle.line_pages.specs.Rows.{piece_text_at}
-use Rattle.schema_plan.specs.FieldSizes.{size_of}
-use Rattle.schema_plan.specs.Layout.{column_at, layout_of}
+use Rattle.schema_facts.specs.FieldSizes.{size_of}
+use Rattle.schema_facts.specs.Layout.{column_at, layout_of}
 use Rattle.schema_plan.specs.Limits.{IsInLimits, IsTableInLimits}
 use Rattle.draw_values.specs.declared.items.ItemizedField.{ItemizedField}
 use Rattle.draw_values.specs.declared.runs.RunRows.{RunRows}

@@ -1,8 +1,8 @@
 -- The days and the numbers of the rows of a run in a column, from which fields of others are made.
 use Rattle.std.specs.Prelude.{◌≡◌, ◌<◌, ◌≤◌, ◌^◌, ℕ, ℤ, pos, Bool, true, false, List, Option, Some, None, get_or, length, unsigned_abs}
-use Rattle.schema_plan.specs.ColumnFacts.{field_facts}
-use Rattle.schema_plan.specs.Layout.{column_at, layout_of}
-use Rattle.schema_plan.specs.Numbers.{decimals_of}
+use Rattle.schema_facts.specs.ColumnFacts.{field_facts}
+use Rattle.schema_facts.specs.Layout.{column_at, layout_of}
+use Rattle.schema_facts.specs.Numbers.{decimals_of}
 use Rattle.draw_values.specs.declared.leaf_numbers.Number.{Number}
 use Rattle.draw_values.specs.CohortValues.{IsDayOf, IsNumberOf}
 use Rattle.life_intervals.specs.Generator.{generator_of}

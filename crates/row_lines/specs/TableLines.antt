@@ -1,12 +1,12 @@
 -- What the lines of a table's rows are made from, column by column.
 use Rattle.std.specs.Prelude.{◌≡◌, ℕ, ◌+◌, ◌^◌, ◌&&◌, Bool, false, true, List, Option, Some, None, length, map, nat_le}
 use Rattle.std.specs.List.{range_with_len}
-use Rattle.schema_plan.specs.declared.numbers.Numbers.{Numbers}
+use Rattle.schema_facts.specs.declared.numbers.Numbers.{Numbers}
 use Rattle.schema_plan.specs.declared.ready.ReadyKind.{ReadyKind}
 use Rattle.schema_plan.specs.declared.ready.ReadyKind.TheVariants as kind
-use Rattle.schema_plan.specs.ColumnFacts.{field_facts}
-use Rattle.schema_plan.specs.Dictionaries.{Project}
-use Rattle.schema_plan.specs.Layout.{KindLayout, column_at, key_kind, layout_of, lookup_kind, reference_kind}
+use Rattle.schema_facts.specs.ColumnFacts.{field_facts}
+use Rattle.schema_facts.specs.Dictionaries.{Project}
+use Rattle.schema_facts.specs.Layout.{KindLayout, column_at, key_kind, layout_of, lookup_kind, reference_kind}
 use Rattle.schema_plan.specs.Ready.{ready_kind}
 use Rattle.draw_values.specs.Runs.{RunColumnOf, is_short_number, run_column}
 use Rattle.life_intervals.specs.Generator.{rows_in_all, table_of}

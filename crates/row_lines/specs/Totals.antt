@@ -2,11 +2,11 @@
 use Rattle.std.specs.Prelude.{◌≡◌, ◌<◌, ◌≤◌, ℕ, ℤ, pos, ◌-◌, ◌+ℤ◌, ◌*ℤ◌, Bool, true, false, codes, List, map, length, All, Option, Some, None, ⊤}
 use Rattle.std.specs.List.{fold}
 use Rattle.cohort_sizes.specs.Births.{cohort_size}
-use Rattle.schema_plan.specs.declared.numbers.Numbers.{Numbers}
+use Rattle.schema_facts.specs.declared.numbers.Numbers.{Numbers}
 use Rattle.schema_plan.specs.declared.ready.ReadyLookup.{ReadyLookup}
-use Rattle.schema_plan.specs.ColumnFacts.{field_facts}
-use Rattle.schema_plan.specs.Layout.{KindLayout, after_kind, sum_kind, product_kind, layout_of}
-use Rattle.schema_plan.specs.Numbers as facts
+use Rattle.schema_facts.specs.ColumnFacts.{field_facts}
+use Rattle.schema_facts.specs.Layout.{KindLayout, after_kind, sum_kind, product_kind, layout_of}
+use Rattle.schema_facts.specs.Numbers as facts
 use Rattle.draw_values.specs.declared.leaf_numbers.Number.{Number}
 use Rattle.draw_values.specs.Values.{number_text}
 use Rattle.life_intervals.specs.CohortParents.{IsReferenceOf, reference_by}

@@ -1,6 +1,6 @@
 -- Small generators, whose tables can be worked out by hand.
 use Rattle.std.specs.Prelude.{ℕ, ◌+◌, ◌-◌, pos, neg_ℤ, Bool, false, true, List, [], ◌∷◌, Some, None, codes}
-use Rattle.schema_plan.specs.Layout.{date_leaf, fixed_leaf, int_leaf, literal_part, cited_part, KindLayout, leaf_kind, after_kind, sum_kind, product_kind, key_kind, born_kind, changed_kind, template_kind, reference_kind, lookup_kind, ColumnLayout, TableLayout}
+use Rattle.schema_facts.specs.Layout.{date_leaf, fixed_leaf, int_leaf, literal_part, cited_part, KindLayout, leaf_kind, after_kind, sum_kind, product_kind, key_kind, born_kind, changed_kind, template_kind, reference_kind, lookup_kind, ColumnLayout, TableLayout}
 use Rattle.life_intervals.specs.Generator.{Order, Draw, in_place, Generator}
 use Rattle.life_intervals.specs.Rows.{Row}
 

@@ -4,9 +4,9 @@ ghost use Rattle.std.specs.Prelude.{◌≡◌, ◌<◌, ◌≤◌, ◌+◌, ◌^
 ghost use Rattle.row_text.specs.Fields.{field_text};
 ghost use Rattle.schema_plan.specs.declared.ready.ReadyKind.TheVariants.{Template};
 ghost use Rattle.cohort_sizes.specs.Births.{born_count, cohort_size};
-ghost use Rattle.schema_plan.specs.Layout.{column_at, layout_of};
+ghost use Rattle.schema_facts.specs.Layout.{column_at, layout_of};
 ghost use Rattle.schema_plan.specs.Limits.{IsTableInLimits, is_lookup_kind};
-ghost use Rattle.schema_plan.specs.Lineage.{choice_cost, one_if};
+ghost use Rattle.schema_facts.specs.Lineage.{choice_cost, one_if};
 ghost use Rattle.schema_plan.specs.Ready.{ready_kind};
 ghost use Rattle.draw_values.specs.Values.{is_own, put_of, written};
 ghost use Rattle.life_intervals.specs.CohortParents.{IsReferenceOf, held_cost, reference_by};

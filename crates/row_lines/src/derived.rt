@@ -4,11 +4,11 @@
 ghost use Rattle.std.specs.Prelude.{◌≡◌, ◌<◌, ◌≤◌, ℕ, ◌+◌, ◌++◌, IfSome, Some, is_some, length, map, sum_by, true};
 ghost use Rattle.std.specs.List.{fold};
 ghost use Rattle.cohort_sizes.specs.Births.{cohort_size};
-ghost use Rattle.schema_plan.specs.ColumnFacts.{field_cost, field_facts};
-ghost use Rattle.schema_plan.specs.Ends.{IsInRange};
-ghost use Rattle.schema_plan.specs.FieldCosts.{choice_cost_of};
-ghost use Rattle.schema_plan.specs.FieldSizes.{greatest_by};
-ghost use Rattle.schema_plan.specs.Layout.{column_at, layout_of};
+ghost use Rattle.schema_facts.specs.ColumnFacts.{field_cost, field_facts};
+ghost use Rattle.schema_facts.specs.Ends.{IsInRange};
+ghost use Rattle.schema_facts.specs.FieldCosts.{choice_cost_of};
+ghost use Rattle.schema_facts.specs.FieldSizes.{greatest_by};
+ghost use Rattle.schema_facts.specs.Layout.{column_at, layout_of};
 ghost use Rattle.draw_values.specs.CohortValues.{IsDayOf, IsNumberOf};
 ghost use Rattle.draw_values.specs.Values.{put_of};
 ghost use Rattle.row_lines.specs.CohortLines.{LinesOf, layout_for, values_at};

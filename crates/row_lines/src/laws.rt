@@ -8,13 +8,13 @@ ghost use Rattle.std.specs.Prelude.{◌≡◌, ℕ, ℤ, pos, ◌+◌, ◌*◌, 
 ghost use Rattle.std.specs.Option.{option_and_then, option_map};
 ghost use Rattle.row_text.specs.Fields.{field_text, escaped_text};
 ghost use Rattle.cohort_sizes.specs.Births.{born_count, cohort_size, first_ordinal};
-ghost use Rattle.schema_plan.specs.Layout.{LeafLayout, PartLayout, born_kind, changed_kind, cited_part, column_at, key_kind, leaf_kind, list_kind, literal_part, lookup_kind, table_at, template_kind, unit_date_kind};
+ghost use Rattle.schema_facts.specs.Layout.{LeafLayout, PartLayout, born_kind, changed_kind, cited_part, column_at, key_kind, leaf_kind, list_kind, literal_part, lookup_kind, table_at, template_kind, unit_date_kind};
 ghost use Rattle.schema_plan.specs.Limits.{is_cited, is_lookup_kind};
 ghost use Rattle.dictionaries.specs.WordList.{WordList};
 ghost use Rattle.draw_values.specs.Dates.{date_text};
 ghost use Rattle.draw_values.specs.Values.{leaf_value, unless_null};
 ghost use Rattle.life_intervals.specs.Generator.{Generator};
-ghost use Rattle.schema_plan.specs.References.{Reference, reference_at};
+ghost use Rattle.schema_facts.specs.References.{Reference, reference_at};
 ghost use Rattle.life_intervals.specs.Intervals.{held_parent, is_live, living, parent_of, row_at};
 ghost use Rattle.life_intervals.specs.Keys.{key_of};
 ghost use Rattle.life_intervals.specs.Rows.{Row};

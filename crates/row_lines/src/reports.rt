@@ -2,9 +2,9 @@
 
 ghost use Rattle.std.specs.Prelude.{◌≡◌, ◌<◌, ◌≤◌, ◌+◌, ◌++◌, ◌&&◌, Some, [], codes, decimal, is_some, length, nat_le, true, unwrap_or};
 ghost use Rattle.cohort_sizes.specs.Births.{born_count};
-ghost use Rattle.schema_plan.specs.Layout.{layout_of};
-ghost use Rattle.schema_plan.specs.Lineage.{death_cost};
-ghost use Rattle.schema_plan.specs.TableFacts.{cost, line_cost, max_line};
+ghost use Rattle.schema_facts.specs.Layout.{layout_of};
+ghost use Rattle.schema_facts.specs.Lineage.{death_cost};
+ghost use Rattle.schema_facts.specs.TableFacts.{cost, line_cost, max_line};
 ghost use Rattle.life_intervals.specs.Generator.{generator_of, last_unit, rows_in_all, table_of};
 ghost use Rattle.life_intervals.specs.Intervals.{is_after, is_live, row_at};
 ghost use Rattle.life_intervals.specs.Keys.{key_of};

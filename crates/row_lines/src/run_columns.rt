@@ -4,8 +4,8 @@ ghost use Rattle.std.specs.Prelude.{◌≡◌, ◌<◌, ◌≤◌, ℕ, ◌+◌,
 ghost use Rattle.std.specs.List.{range_with_len};
 ghost use Rattle.line_pages.specs.Pieces.{piece_text};
 ghost use Rattle.line_pages.specs.Rows.{piece_text_at};
-ghost use Rattle.schema_plan.specs.Layout.{column_at, key_kind, layout_of};
-ghost use Rattle.schema_plan.specs.Lineage.{one_if};
+ghost use Rattle.schema_facts.specs.Layout.{column_at, key_kind, layout_of};
+ghost use Rattle.schema_facts.specs.Lineage.{one_if};
 ghost use Rattle.life_intervals.specs.CohortParents.{IsReferenceOf, held_cost, reference_by};
 ghost use Rattle.life_intervals.specs.Generator.{table_of};
 ghost use Rattle.row_lines.specs.Runs.{AreKeys, layout_for};

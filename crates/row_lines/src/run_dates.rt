@@ -2,8 +2,8 @@
 
 ghost use Rattle.std.specs.Prelude.{◌≡◌, ◌<◌, ◌≤◌, ℕ, ◌+◌, ◌+ℤ◌, ◌*◌, get_or, length, pos, true};
 ghost use Rattle.line_pages.specs.Pieces.{piece_text};
-ghost use Rattle.schema_plan.specs.Ends.{IsInRange};
-ghost use Rattle.schema_plan.specs.Layout.{column_at};
+ghost use Rattle.schema_facts.specs.Ends.{IsInRange};
+ghost use Rattle.schema_facts.specs.Layout.{column_at};
 ghost use Rattle.row_lines.specs.RunFields.{AreMade, AreRowsOf, asked_for, size_for};
 ghost use Rattle.row_lines.specs.RunValues.{AreDays};
 ghost use Rattle.row_lines.specs.Runs.{layout_for, text_at, text_behind};

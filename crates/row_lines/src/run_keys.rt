@@ -2,7 +2,7 @@
 
 ghost use Rattle.std.specs.Prelude.{◌≡◌, ◌<◌, ◌≤◌, ℕ, ◌+◌, ◌*◌, ◌++◌, codes, decimal, get_or, length};
 ghost use Rattle.std.specs.List.{flat_map};
-ghost use Rattle.schema_plan.specs.Lineage.{one_if};
+ghost use Rattle.schema_facts.specs.Lineage.{one_if};
 ghost use Rattle.life_intervals.specs.Generator.{rows_in_all, table_of};
 ghost use Rattle.row_lines.specs.Runs.{keys_text};
 

@@ -3,10 +3,10 @@
 ghost use Rattle.std.specs.Prelude.{◌≡◌, ◌<◌, ◌≤◌, ℕ, ◌+◌, ◌*◌, ◌++◌, All, false, get_or, length, sum_by, true};
 ghost use Rattle.std.specs.List.{range_with_len};
 ghost use Rattle.line_pages.specs.Pieces.{piece_text};
-ghost use Rattle.schema_plan.specs.Layout.{layout_of};
+ghost use Rattle.schema_facts.specs.Layout.{layout_of};
 ghost use Rattle.draw_values.specs.Items.{itemized_field};
 ghost use Rattle.draw_values.specs.Runs.{run_row};
-ghost use Rattle.schema_plan.specs.TableFacts.{max_line};
+ghost use Rattle.schema_facts.specs.TableFacts.{max_line};
 ghost use Rattle.row_lines.specs.Runs.{AreKeys, layout_for, line_for, listed_text, text_at, text_behind};
 ghost use Rattle.life_intervals.specs.Generator.{generator_of, last_unit};
 ghost use Rattle.life_intervals.specs.Keys.{key_of};
@@ -173,7 +173,7 @@ impl<'a> RunLines<'a> {
 }
 
 /// Whether each flag is true.
-fn are_all(flags: &[bool]) -> bool
+pub fn are_all(flags: &[bool]) -> bool
     ensures { result ≡ true → (i : ℕ) → i < length flags.now → get_or flags.now i false ≡ true }
 {
     for flag in flags {

@@ -4,7 +4,7 @@ ghost use Rattle.std.specs.Prelude.{◌≡◌, ℕ, ◌<◌, ◌≤◌, ◌+◌,
 ghost use Rattle.line_pages.specs.Rows.{piece_text_at};
 ghost use Rattle.draw_values.specs.Runs.{run_column};
 ghost use Rattle.draw_values.specs.Values.{size_at};
-ghost use Rattle.schema_plan.specs.Layout.{layout_of};
+ghost use Rattle.schema_facts.specs.Layout.{layout_of};
 ghost use Rattle.schema_plan.specs.Limits.{IsStillColumn};
 ghost use Rattle.life_intervals.specs.Generator.{table_of};
 ghost use Rattle.life_intervals.specs.Runs.{IsRun};

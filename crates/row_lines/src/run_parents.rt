@@ -1,7 +1,7 @@
 //! The parents of a run's rows, found once for all fields that need them.
 
 ghost use Rattle.std.specs.Prelude.{◌≡◌, ◌≤◌, ◌+◌, ◌*◌, None, Some, length};
-ghost use Rattle.schema_plan.specs.Lineage.{choice_cost};
+ghost use Rattle.schema_facts.specs.Lineage.{choice_cost};
 ghost use Rattle.life_intervals.specs.CohortParents.{IsReferenceOf};
 ghost use Rattle.row_lines.specs.RunFields.{AreRowsOf};
 ghost use Rattle.row_lines.specs.RunParents.{AreKnown, AreParents, is_by};

@@ -1,9 +1,9 @@
 //! The sums and the products of a run's rows, as pieces.
 
 ghost use Rattle.std.specs.Prelude.{◌≡◌, ◌<◌, ◌≤◌, ℕ, ◌+◌, ◌*◌, ◌+ℤ◌, ◌*ℤ◌, IfSome, get_or, is_some, length, pos, true};
-ghost use Rattle.schema_plan.specs.ColumnFacts.{field_facts};
-ghost use Rattle.schema_plan.specs.Ends.{IsInRange};
-ghost use Rattle.schema_plan.specs.Layout.{column_at, layout_of};
+ghost use Rattle.schema_facts.specs.ColumnFacts.{field_facts};
+ghost use Rattle.schema_facts.specs.Ends.{IsInRange};
+ghost use Rattle.schema_facts.specs.Layout.{column_at, layout_of};
 ghost use Rattle.draw_values.specs.CohortValues.{IsNumberOf};
 ghost use Rattle.row_lines.specs.RunFields.{AreMade, AreRowsOf, asked_for};
 ghost use Rattle.row_lines.specs.RunValues.{AreTold, AreTotals, digits_in, value_of};
@@ -238,7 +238,7 @@ fn told(number: Option<Number>) -> (bool, i64)
 
 /// Joins each total so far with one more operand, which takes so many more digits in a sum, at most 9. The operands, also with these
 /// digits, and the totals, so far and with the operands, must be in the range from -(2^63 - 1) to 2^63 - 1.
-fn join_all(join: Join, more: u32, totals: &mut [i64], operands: &[i64])
+pub fn join_all(join: Join, more: u32, totals: &mut [i64], operands: &[i64])
     requires more { more ≤ 9 }
     requires lengths { length operands.now ≡ length totals.old }
     requires so_far { (i : ℕ) → i < length totals.old → IsInRange (get_or totals.old i (pos 0)) }

@@ -2,9 +2,9 @@
 
 ghost use Rattle.std.specs.Prelude.{◌≡◌, ◌<◌, ◌≤◌, ◌+◌, ◌++◌, IfSome, length};
 ghost use Rattle.cohort_sizes.specs.Births.{LiesIn};
-ghost use Rattle.schema_plan.specs.ColumnFacts.{field_cost, field_facts};
-ghost use Rattle.schema_plan.specs.FieldSizes.{size_at};
-ghost use Rattle.schema_plan.specs.Layout.{layout_of};
+ghost use Rattle.schema_facts.specs.ColumnFacts.{field_cost, field_facts};
+ghost use Rattle.schema_facts.specs.FieldSizes.{size_at};
+ghost use Rattle.schema_facts.specs.Layout.{layout_of};
 ghost use Rattle.schema_plan.specs.Limits.{IsStillColumn};
 ghost use Rattle.draw_values.specs.CohortValues.{IsDayOf, IsNumberOf};
 ghost use Rattle.life_intervals.specs.Generator.{last_unit, table_of};

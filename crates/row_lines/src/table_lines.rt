@@ -8,7 +8,8 @@ use crate::bytes::byte_behind;
 use draw_values::RunColumn;
 use life_intervals::born;
 use out_of_memory::Memory;
-use schema_plan::{Numbers, Plan, ReadyKind};
+use schema_facts::Numbers;
+use schema_plan::{Plan, ReadyKind};
 use std::alloc::Global;
 use std::marker::Model;
 
@@ -184,7 +185,7 @@ fn is_short(
 }
 
 /// Whether each of the numbers of a column has at most 13 digits. False if the column isn't numeric.
-fn are_small(numbers: Option<Numbers>) -> bool
+pub fn are_small(numbers: Option<Numbers>) -> bool
     ensures { result ≡ are_small numbers }
 {
     match numbers {

@@ -2,9 +2,9 @@
 use Rattle.std.proofs.Common.{◌≡◌, ◌<◌, ◌≤◌, ℕ, ◌+◌, List, map, length, sum_by, arith}
 use Rattle.std.proofs.lemmas.List.Folds.{fold-map}
 use Rattle.std.proofs.lemmas.List.Sums.{get_or-le-sum_by}
-use Rattle.schema_plan.specs.FieldSizes.{size_of}
-use Rattle.schema_plan.specs.Layout.{ColumnLayout, Layout, no_column, table_at}
-use Rattle.schema_plan.specs.TableFacts.{max_line}
+use Rattle.schema_facts.specs.FieldSizes.{size_of}
+use Rattle.schema_facts.specs.Layout.{ColumnLayout, Layout, no_column, table_at}
+use Rattle.schema_facts.specs.TableFacts.{max_line}
 use Rattle.draw_values.specs.Values.{size_at}
 
 pub sum_by-map : {A B : Type 0} (f : A → B) (number : B → ℕ) (xs : List A) → sum_by number (map f xs) ≡ sum_by (λ x. number (f x)) xs

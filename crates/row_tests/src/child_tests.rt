@@ -2,7 +2,7 @@
 //! program (docs/SECOND_PROGRAM.md), the places are worked out by hand from them.
 
 ghost use Rattle.std.specs.Prelude.{◌≡◌, ◌<◌, ◌≤◌, Some, is_some, length, true};
-ghost use Rattle.schema_plan.specs.References.{Reference, reference_at};
+ghost use Rattle.schema_facts.specs.References.{Reference, reference_at};
 ghost use Rattle.life_intervals.specs.Children.{IsCandidate};
 ghost use Rattle.life_intervals.specs.Generator.{last_unit, table_of};
 

@@ -1,13 +1,14 @@
 //! What several tests need: plans of schemas, checksums, the schema of sales, and schemas whose parents are dealt in turn or drawn.
 
 ghost use Rattle.std.specs.Prelude.{◌≡◌, ◌<◌, is_some, length, true};
-ghost use Rattle.schema_plan.specs.References.{reference_at};
+ghost use Rattle.schema_facts.specs.References.{reference_at};
 ghost use Rattle.life_intervals.specs.Generator.{rows_in_all, table_of};
 
 use dictionaries::read_dictionary;
 use life_intervals::born;
 use schema_check::check;
-use schema_plan::{Dictionaries, Plan, ReadyKind};
+use schema_facts::Dictionaries;
+use schema_plan::{Plan, ReadyKind};
 use schema_read::read_schema;
 use std::alloc::Global;
 use std::process::Abort;

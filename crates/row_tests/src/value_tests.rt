@@ -3,8 +3,8 @@
 
 ghost use Rattle.std.specs.Prelude.{◌≡◌, ◌<◌, ◌≤◌, ℕ, ◌-◌, ◌^◌, pos, neg_ℤ, [], ◌∷◌, Some, codes, length, map, true};
 ghost use Rattle.std.specs.Bool.{OnTrue};
-ghost use Rattle.schema_plan.specs.Layout.{column_at, int_leaf, layout_of, table_at};
-ghost use Rattle.schema_plan.specs.TableFacts.{max_line};
+ghost use Rattle.schema_facts.specs.Layout.{column_at, int_leaf, layout_of, table_at};
+ghost use Rattle.schema_facts.specs.TableFacts.{max_line};
 ghost use Rattle.draw_values.specs.Values.{is_own, leaf_value, size_at};
 
 use crate::fixtures::{assert_case, plan_of, with_text};

@@ -13,13 +13,13 @@ use Rattle.schema_plan.specs.declared.site.Site.TheVariants.{Whole, OfTable, OfC
 use Rattle.schema_model.specs.declared.column.Column.{Column}
 use Rattle.schema_model.specs.declared.table.Life.{Life}
 use Rattle.schema_model.specs.declared.table.Schema.{Schema}
-use Rattle.schema_plan.specs.ColumnFacts.{column_facts}
-use Rattle.schema_plan.specs.Dictionaries.{Dictionary, Project, project_of}
-use Rattle.schema_plan.specs.Layout.{births_of}
-use Rattle.schema_plan.specs.Lineage.{lineages}
-use Rattle.schema_plan.specs.References.{first_in_window}
+use Rattle.schema_facts.specs.ColumnFacts.{column_facts}
+use Rattle.schema_facts.specs.Dictionaries.{Dictionary, Project, project_of}
+use Rattle.schema_facts.specs.Layout.{births_of}
+use Rattle.schema_facts.specs.Lineage.{lineages}
+use Rattle.schema_facts.specs.References.{first_in_window}
 use Rattle.schema_plan.specs.Rules.{IsAccepted, Keeps, broken_rule, first_broken, has_parent_row, has_parent_rows, is_row_count}
-use Rattle.schema_plan.specs.TableFacts.{line_cost, max_line}
+use Rattle.schema_facts.specs.TableFacts.{line_cost, max_line}
 use Rattle.schema_check.specs.Faults.{Tells, refusal_of, told}
 use Rattle.schema_check.specs.declared.checker.CheckFault.{CheckFault}
 use Rattle.schema_check.specs.declared.checker.CheckFault.TheVariants.{Memory, Rule as Broken}

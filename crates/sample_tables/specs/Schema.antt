@@ -11,7 +11,7 @@ use Rattle.schema_model.specs.declared.table.Delimiter.TheVariants.{Tab}
 use Rattle.schema_model.specs.declared.table.Phase.{Phase}
 use Rattle.schema_model.specs.declared.table.Schema.{Schema}
 use Rattle.schema_model.specs.declared.table.Table.{Table}
-use Rattle.schema_plan.specs.Dictionaries.{Project, project_of}
+use Rattle.schema_facts.specs.Dictionaries.{Project, project_of}
 
 -- the one phase in which as many rows are born at each unit after the first
 abbrev pub at_each_unit : ℕ → List Phase

@@ -6,7 +6,8 @@ ghost use Rattle.sample_tables.specs.Schema.{sample_project};
 use crate::schema::sample_of;
 use out_of_memory::Memory;
 use schema_check::{CheckFault, check};
-use schema_plan::{Dictionaries, Plan};
+use schema_facts::Dictionaries;
+use schema_plan::Plan;
 use std::alloc::Global;
 
 /// Makes the plan of the schema of a size from 1 to 1,000. The schema breaks no rule, so this refuses only if memory is wanting.

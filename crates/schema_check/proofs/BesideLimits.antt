@@ -6,11 +6,11 @@ use Rattle.schema_model.specs.declared.column.Column.{Column}
 use Rattle.schema_model.specs.declared.column.Kind.{Kind}
 use Rattle.schema_model.specs.declared.column.Kind.TheVariants as kind
 use Rattle.schema_model.specs.declared.column.Leaf.{Leaf}
-use Rattle.schema_plan.specs.declared.column_facts.ColumnFacts.{ColumnFacts}
-use Rattle.schema_plan.specs.declared.days.Days.{Days}
+use Rattle.schema_facts.specs.declared.column_facts.ColumnFacts.{ColumnFacts}
+use Rattle.schema_facts.specs.declared.days.Days.{Days}
 use Rattle.schema_plan.specs.Citations.{leaves_of}
-use Rattle.schema_plan.specs.Dictionaries.{AreWordLists, Dictionary}
-use Rattle.schema_plan.specs.Layout.{leaf_layout, place_of_column}
+use Rattle.schema_facts.specs.Dictionaries.{AreWordLists, Dictionary}
+use Rattle.schema_facts.specs.Layout.{leaf_layout, place_of_column}
 use Rattle.schema_plan.specs.Limits.{CanBeReady, IsAfterOf, IsLeafInLimits, IsListOf, IsSpreadOf}
 use Rattle.schema_plan.specs.Rules.{are_in_range, are_supplied_by, is_after_range, is_change, is_date_range, is_later_date, is_length_range, is_new_at, is_null_share, is_number_range, is_redrawn_at, is_skew_range, is_supplied_kind_by, is_total, is_weighted, keeps_column_rules, kind_at, moves_at, null_at}
 use Rattle.schema_check.proofs.FromTests.{passes_each}

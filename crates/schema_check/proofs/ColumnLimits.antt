@@ -14,14 +14,14 @@ use Rattle.schema_model.specs.declared.column.Leaf.{Leaf}
 use Rattle.schema_model.specs.declared.column.Leaf.TheVariants as drawn
 use Rattle.schema_model.specs.declared.column.Part.{Part}
 use Rattle.schema_model.specs.declared.column.Part.TheVariants as part
-use Rattle.schema_plan.specs.declared.days.Days.{Days}
-use Rattle.schema_plan.specs.declared.numbers.Numbers.{Numbers}
+use Rattle.schema_facts.specs.declared.days.Days.{Days}
+use Rattle.schema_facts.specs.declared.numbers.Numbers.{Numbers}
 use Rattle.schema_plan.specs.Citations.{cited_names, leaves_of}
-use Rattle.schema_plan.specs.Counts.{count}
-use Rattle.schema_plan.specs.Dictionaries.{AreWordLists, Dictionary, Project}
-use Rattle.schema_plan.specs.Layout.{ColumnLayout, column_at, column_layout, kind_layout, leaf_layout, no_column, part_layout, place_of_column}
+use Rattle.schema_facts.specs.Counts.{count}
+use Rattle.schema_facts.specs.Dictionaries.{AreWordLists, Dictionary, Project}
+use Rattle.schema_facts.specs.Layout.{ColumnLayout, column_at, column_layout, kind_layout, leaf_layout, no_column, part_layout, place_of_column}
 use Rattle.schema_plan.specs.Limits.{AreFilledParts, AreParts, CitesStill, IsAfterRange, IsCase, IsDateRange, IsKindInLimits, IsUnitDateInLimits, IsFilledPart, IsLeafInLimits, IsPart, IsPickOf, IsStillPart, IsStillPlace, can_change, is_cited, is_moving_kind as is_moving_layout, is_whole_kind as is_whole_layout, is_whole_leaf as is_whole_leaf_layout, moves}
-use Rattle.schema_plan.specs.References.{Reference, reference_of}
+use Rattle.schema_facts.specs.References.{Reference, reference_of}
 use Rattle.schema_plan.specs.Rules.{are_paddings, are_still_names, are_supplied, are_unit_days, is_after_range, is_later_date, is_total, joins, is_supplied_kind, is_unit_date, is_redrawn_at, cites_still, is_between, is_case, is_change, is_citable, is_date_range, is_key_in_range, is_length_range, is_moving_kind, is_null_share, is_number_range, is_padding, is_part, is_pick_of, is_skew_range, is_spread, is_still_kind, is_still_part, is_template, is_weighted, is_whole_kind, is_whole_leaf, kind_at, may_be_redrawn, moves_at, null_at}
 use Rattle.schema_check.proofs.FromTests.{le_from_test, limit_from_test, passes_each}
 use Rattle.schema_check.proofs.LeafLimits.{leaf_in_limits, leaves_in_limits, words_supplied}

@@ -5,7 +5,7 @@ use Rattle.schema_plan.specs.declared.broken.Broken.{Broken}
 use Rattle.schema_plan.specs.declared.rules.Rule.{Rule}
 use Rattle.schema_plan.specs.declared.site.Site.{Site}
 use Rattle.schema_plan.specs.declared.site.Site.TheVariants.{Whole, OfTable, OfColumn}
-use Rattle.schema_plan.specs.Dictionaries.{Project}
+use Rattle.schema_facts.specs.Dictionaries.{Project}
 use Rattle.schema_plan.specs.Rules.{holds, first_found, break_at, break_in_table, first_break, broken_rule, IsFirstBreak, Keeps}
 use Rattle.schema_plan.specs.Sites.{columns_at, IsSiteOf, table_number, column_number}
 use Rattle.schema_check.proofs.Kept.{table_holds, found_at_first_place, holds_from_none, one_of_some, keeps_from_none, FoundAt}

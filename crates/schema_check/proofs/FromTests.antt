@@ -5,7 +5,7 @@ use Rattle.std.specs.List.{list_all, list_any}
 use Rattle.std.proofs.lemmas.Bool.{leb-true, both_ways, false_from_ne_true, true_from_ne_false}
 use Rattle.std.proofs.lemmas.Float.{T_from_true}
 use Rattle.std.proofs.lemmas.List.Folds.{list_all_at, list_any_at}
-use Rattle.schema_plan.specs.Counts.{count}
+use Rattle.schema_facts.specs.Counts.{count}
 use Rattle.schema_plan.specs.Limits.{IsCount}
 
 -- a number that isn't below 0 is the count that it stands for

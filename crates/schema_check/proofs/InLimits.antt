@@ -13,18 +13,18 @@ use Rattle.schema_plan.specs.declared.rules.Rule.{Rule}
 use Rattle.schema_plan.specs.declared.rules.Rule.TheVariants.{Dictionaries, SeedAndUnits, TableCount, Columns, KeyColumn, RowCount, LifeRange, UpdatePeriod, NumberRange, DateRange, PickEntries, SkewRange, LengthRange, TemplateParts, CaseBranches, StillCitations, ReferenceTargets, ReferenceWindows, ParentRows, SpreadWeights, LookupColumns, RowCost, LineSize, ChangesAndNulls, UnitDates, LaterDates, Totals, PaddedParts}
 use Rattle.schema_plan.specs.declared.site.Site.TheVariants.{Whole, OfTable, OfColumn}
 use Rattle.cohort_sizes.specs.Births.{born_count}
-use Rattle.schema_plan.specs.ColumnFacts.{column_facts, column_facts_at, field_facts}
-use Rattle.schema_plan.specs.Counts.{count}
-use Rattle.schema_plan.specs.Dictionaries.{AreWordLists, Dictionary, Project}
-use Rattle.schema_plan.specs.Layout.{ColumnLayout, TableLayout, births_of, column_at, column_layout, key_kind, keys_of_kind, kind_layout, layout_of, span_of, table_at, table_layout}
+use Rattle.schema_facts.specs.ColumnFacts.{column_facts, column_facts_at, field_facts}
+use Rattle.schema_facts.specs.Counts.{count}
+use Rattle.schema_facts.specs.Dictionaries.{AreWordLists, Dictionary, Project}
+use Rattle.schema_facts.specs.Layout.{ColumnLayout, TableLayout, births_of, column_at, column_layout, key_kind, keys_of_kind, kind_layout, layout_of, span_of, table_at, table_layout}
 use Rattle.schema_plan.specs.Limits.{IsKindInLimits, IsLife, IsLookupInLimits, IsOfOthersInLimits, IsTableInLimits, IsInLimits, IsUnitDateInLimits, IsUpdatePeriod}
-use Rattle.schema_plan.specs.References.{IsReferenceInLimits, reference_of, references_of}
+use Rattle.schema_facts.specs.References.{IsReferenceInLimits, reference_of, references_of}
 use Rattle.schema_plan.specs.Rules.{are_paddings, are_phases, broken_rule, first_broken, rule_number, rules, is_redrawn_at, cites_still, is_between, is_change, is_key, is_key_in_range, is_key_first, is_later_date, is_life, is_null_share, is_one_to_64, is_template, is_total, is_unit_date, is_update_period, kind_at, null_at, references_before, schema_table, IsAccepted, Keeps}
 use Rattle.schema_plan.specs.Sites.{columns_at}
-use Rattle.schema_plan.specs.TableFacts.{cost, max_line}
+use Rattle.schema_facts.specs.TableFacts.{cost, max_line}
 use Rattle.schema_check.proofs.ColumnLimits.{cites_still_columns, columns_layout, filled_from_test, key_never_null, kind_at-layout, kind_in_limits, null_at-layout, null_limit, reference_never_null, unchanged, unit_date_from_test}
-use Rattle.schema_plan.proofs.FactsLemmas.{table_at-is}
-use Rattle.schema_plan.proofs.FieldFactsLemmas.{are_field_facts}
+use Rattle.schema_facts.proofs.FactsLemmas.{table_at-is}
+use Rattle.schema_facts.proofs.FieldFactsLemmas.{are_field_facts}
 use Rattle.schema_check.proofs.FirstBreak.{none_of_rule}
 use Rattle.schema_check.proofs.FromTests.{count_from_test, least_from_test, limit_from_test}
 use Rattle.schema_check.proofs.Kept.{keeps_from_none, none_at}

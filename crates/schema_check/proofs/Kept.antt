@@ -7,7 +7,7 @@ use Rattle.std.proofs.lemmas.Option.{slice_get_within, slice_get-get_or}
 use Rattle.schema_plan.specs.declared.rules.Rule.{Rule}
 use Rattle.schema_plan.specs.declared.site.Site.{Site}
 use Rattle.schema_plan.specs.declared.site.Site.TheVariants.{Whole, OfTable, OfColumn}
-use Rattle.schema_plan.specs.Dictionaries.{Project}
+use Rattle.schema_facts.specs.Dictionaries.{Project}
 use Rattle.schema_plan.specs.Rules.{holds, first_found, break_at, break_in_table, first_break, Keeps}
 use Rattle.schema_plan.specs.Sites.{columns_at, IsSiteOf, table_number}
 

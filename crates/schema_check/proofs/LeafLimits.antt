@@ -10,11 +10,11 @@ use Rattle.dictionaries.specs.WordList.{WordList, IsWordList}
 use Rattle.schema_model.specs.declared.column.Leaf.{Leaf}
 use Rattle.schema_model.specs.declared.column.Leaf.TheVariants as drawn
 use Rattle.schema_plan.specs.Citations.{may_cite}
-use Rattle.schema_plan.specs.Counts.{count}
-use Rattle.schema_plan.specs.Dictionaries.{AreWordLists, Dictionary, dictionary_named, no_words, words_named}
-use Rattle.schema_plan.specs.Layout.{leaf_layout}
+use Rattle.schema_facts.specs.Counts.{count}
+use Rattle.schema_facts.specs.Dictionaries.{AreWordLists, Dictionary, dictionary_named, no_words, words_named}
+use Rattle.schema_facts.specs.Layout.{leaf_layout}
 use Rattle.schema_plan.specs.Limits.{IsAlphabet, IsDateRange, IsLeafInLimits, IsLengthRange, IsRange, IsSkew, IsWeighted}
-use Rattle.schema_plan.specs.Names.{same_text}
+use Rattle.schema_facts.specs.Names.{same_text}
 use Rattle.schema_plan.specs.Rules.{are_supplied_by, is_between, is_date_range, is_length_between, is_length_range, is_number_range, is_range, is_skew_range, is_supplied_by, is_weighted}
 use Rattle.schema_check.proofs.FromTests.{le_from_test, least_from_test, limit_from_test, passes_each}
 

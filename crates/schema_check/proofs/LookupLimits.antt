@@ -7,8 +7,8 @@ use Rattle.schema_model.specs.declared.column.Column.{Column}
 use Rattle.schema_model.specs.declared.column.Kind.{Kind}
 use Rattle.schema_model.specs.declared.column.Kind.TheVariants as kind
 use Rattle.schema_model.specs.declared.column.OnDelete.TheVariants.{Cascade}
-use Rattle.schema_plan.specs.Dictionaries.{Dictionary}
-use Rattle.schema_plan.specs.Layout.{ColumnLayout, column_at, column_layout, columns_of, kind_layout, place_of_parent, place_of_column, table_at, table_layout, table_layouts}
+use Rattle.schema_facts.specs.Dictionaries.{Dictionary}
+use Rattle.schema_facts.specs.Layout.{ColumnLayout, column_at, column_layout, columns_of, kind_layout, place_of_parent, place_of_column, table_at, table_layout, table_layouts}
 use Rattle.schema_plan.specs.Limits.{IsLookupInLimits, IsCascadeTo, is_lookup_kind as is_lookup_layout, moves}
 use Rattle.schema_plan.specs.Rules.{has_still_column, is_lookup, is_lookup_kind, is_looked_up, kind_at, moves_at}
 use Rattle.schema_check.proofs.ColumnLimits.{columns_layout, kind_at-layout, still_from_test}

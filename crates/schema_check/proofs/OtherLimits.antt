@@ -6,13 +6,13 @@ use Rattle.schema_model.specs.declared.column.Column.{Column}
 use Rattle.schema_model.specs.declared.column.Kind.{Kind}
 use Rattle.schema_model.specs.declared.column.Kind.TheVariants as kind
 use Rattle.schema_model.specs.declared.table.Table.{Table}
-use Rattle.schema_plan.specs.declared.column_facts.ColumnFacts.{ColumnFacts}
-use Rattle.schema_plan.specs.Dictionaries.{Dictionary}
-use Rattle.schema_plan.specs.FactsBefore.{facts_among}
-use Rattle.schema_plan.specs.Layout.{kind_layout, place_of_column}
+use Rattle.schema_facts.specs.declared.column_facts.ColumnFacts.{ColumnFacts}
+use Rattle.schema_facts.specs.Dictionaries.{Dictionary}
+use Rattle.schema_facts.specs.FactsBefore.{facts_among}
+use Rattle.schema_facts.specs.Layout.{kind_layout, place_of_column}
 use Rattle.schema_plan.specs.Limits.{IsOfOthersAmong, IsTotalAmong}
 use Rattle.schema_plan.specs.Rules.{are_still_names, is_after_range, is_later_date, is_redrawn_at, is_total, joins, moves_at}
-use Rattle.schema_plan.proofs.FieldFactsLemmas.{AreFactsOf, adds_earlier, follows_earlier, multiplies_earlier}
+use Rattle.schema_facts.proofs.FieldFactsLemmas.{AreFactsOf, adds_earlier, follows_earlier, multiplies_earlier}
 
 -- from so many to so many operands, and numeric
 total_from_test : (facts : List ColumnFacts) (column : ℕ) (columns : List Column) (of : List (List ℕ)) (least most : ℕ) → 1 ≤ least → most ≤ 8 →

@@ -5,8 +5,8 @@ use Rattle.std.specs.Ordering.{int_eq}
 use Rattle.std.proofs.lemmas.Bool.{and_parts, le-leb, ltb-true}
 use Rattle.schema_model.specs.declared.table.Phase.{Phase}
 use Rattle.cohort_sizes.specs.Rates.{AreRates, RiseFrom}
-use Rattle.schema_plan.specs.Counts.{count}
-use Rattle.schema_plan.specs.Layout.{rate_of}
+use Rattle.schema_facts.specs.Counts.{count}
+use Rattle.schema_facts.specs.Layout.{rate_of}
 use Rattle.schema_plan.specs.Rules.{are_phases, do_phases_rise}
 
 -- a number past one that isn't below 0 counts more

@@ -8,20 +8,20 @@ use Rattle.std.proofs.lemmas.List.FromFn.{get_or-map-range_with_len, get_or-rang
 use Rattle.std.proofs.lemmas.List.Folds.{list_all_at}
 use Rattle.std.proofs.lemmas.List.Sums.{list_all-from_AllPass}
 use Rattle.cohort_sizes.specs.Births.{Births, born_count, cohort_size, first_ordinal}
-use Rattle.schema_plan.specs.declared.facts.TableFacts.{TableFacts}
-use Rattle.schema_plan.specs.declared.lineage.Lineage.{Lineage}
-use Rattle.schema_plan.specs.Capped.{capped_facts, capped_lineage, first_facts}
-use Rattle.schema_plan.specs.Dictionaries.{Project}
-use Rattle.schema_plan.specs.Layout.{TableLayout, layout_of, table_layout}
-use Rattle.schema_plan.specs.Lineage.{endless, lineage_at, lineages, sure_life}
-use Rattle.schema_plan.specs.References.{window_start}
+use Rattle.schema_facts.specs.declared.facts.TableFacts.{TableFacts}
+use Rattle.schema_facts.specs.declared.lineage.Lineage.{Lineage}
+use Rattle.schema_facts.specs.Capped.{capped_facts, capped_lineage, first_facts}
+use Rattle.schema_facts.specs.Dictionaries.{Project}
+use Rattle.schema_facts.specs.Layout.{TableLayout, layout_of, table_layout}
+use Rattle.schema_facts.specs.Lineage.{endless, lineage_at, lineages, sure_life}
+use Rattle.schema_facts.specs.References.{window_start}
 use Rattle.schema_plan.specs.Rules.{has_parent_row}
 use Rattle.cohort_sizes.proofs.StretchLemmas.{first_ordinal-stretch}
-use Rattle.schema_plan.specs.TableFacts.{facts_at}
+use Rattle.schema_facts.specs.TableFacts.{facts_at}
 use Rattle.cohort_sizes.proofs.CohortLemmas.{first_ordinal-le}
 use Rattle.schema_check.proofs.FromTests.{passes_each}
-use Rattle.schema_plan.proofs.LineageLemmas.{length-lineages}
-use Rattle.schema_plan.proofs.Lists.{map-map}
+use Rattle.schema_facts.proofs.LineageLemmas.{length-lineages}
+use Rattle.schema_facts.proofs.Lists.{map-map}
 
 -- ---- the sure life of the first tables
 

@@ -12,13 +12,13 @@ use Rattle.schema_model.specs.declared.column.Kind.TheVariants as kind
 use Rattle.schema_model.specs.declared.column.Window.{Window}
 use Rattle.schema_model.specs.declared.column.Window.TheVariants as window
 use Rattle.cohort_sizes.specs.Births.{Births, born_count, cohort_size}
-use Rattle.schema_plan.specs.Counts.{count}
-use Rattle.schema_plan.specs.Dictionaries.{Project}
-use Rattle.schema_plan.specs.Layout.{ColumnLayout, TableLayout, births_of, column_at, kind_layout, layout_of, place_of_table, table_at, window_layout}
-use Rattle.schema_plan.specs.Lineage.{sure_life}
-use Rattle.schema_plan.specs.References.{IsReferenceInLimits, IsSpread, IsSpreadWeight, IsWithinLife, Reference, first_in_window, reference_at, reference_of, references_of}
+use Rattle.schema_facts.specs.Counts.{count}
+use Rattle.schema_facts.specs.Dictionaries.{Project}
+use Rattle.schema_facts.specs.Layout.{ColumnLayout, TableLayout, births_of, column_at, kind_layout, layout_of, place_of_table, table_at, window_layout}
+use Rattle.schema_facts.specs.Lineage.{sure_life}
+use Rattle.schema_facts.specs.References.{IsReferenceInLimits, IsSpread, IsSpreadWeight, IsWithinLife, Reference, first_in_window, reference_at, reference_of, references_of}
 use Rattle.schema_plan.specs.Rules.{has_parent_row, has_parent_rows, has_parents, is_between, is_spread, is_target, is_window, is_within_life, schema_table}
-use Rattle.schema_plan.proofs.FactsLemmas.{table_at-is}
+use Rattle.schema_facts.proofs.FactsLemmas.{table_at-is}
 use Rattle.schema_check.proofs.FromTests.{least_from_test, limit_from_test, passes_each}
 use Rattle.schema_check.proofs.Kept.{one_of_some}
 

@@ -1,5 +1,5 @@
 -- What the tests of the rules ask, as the code asks it.
-use Rattle.std.proofs.Common.{◌≡◌, ℕ, suc, zero, ◌+◌, ◌-◌, ◌<◌, ◌^◌, Bool, true, false, not, ◌&&◌, ◌||◌, List, [], ◌∷◌, flat_map, length, map, min, get_or, take, refl, sym, ap, ◌∙◌, arith, nat_le}
+use Rattle.std.proofs.Common.{◌≡◌, ℕ, suc, zero, ◌+◌, ◌-◌, ◌<◌, ◌^◌, Bool, true, false, not, ◌&&◌, ◌||◌, List, [], ◌∷◌, length, map, min, get_or, take, refl, sym, ap, ◌∙◌, arith, nat_le}
 use Rattle.std.specs.List.{list_any, range_with_len}
 use Rattle.std.proofs.lemmas.Bool.{leb-false}
 use Rattle.std.proofs.lemmas.Bool.Decides.{nat_tests}
@@ -7,27 +7,24 @@ use Rattle.std.proofs.lemmas.List.{get_or-map}
 use Rattle.std.proofs.lemmas.List.FromFn.{length-map-range_with_len, get_or-map-range_with_len}
 use Rattle.schema_model.specs.declared.table.Schema.{Schema}
 use Rattle.schema_model.specs.declared.table.Table.{Table}
-use Rattle.schema_model.specs.declared.column.Kind.{Kind}
-use Rattle.schema_model.specs.declared.column.Kind.TheVariants as kind
-use Rattle.schema_plan.specs.declared.column_facts.ColumnFacts.{ColumnFacts}
-use Rattle.schema_plan.specs.declared.facts.TableFacts.{TableFacts}
+use Rattle.schema_facts.specs.declared.column_facts.ColumnFacts.{ColumnFacts}
+use Rattle.schema_facts.specs.declared.facts.TableFacts.{TableFacts}
 use Rattle.schema_plan.specs.declared.rules.Rule.{Rule}
 use Rattle.schema_plan.specs.declared.rules.Rule.TheVariants.{RowCost, LineSize}
 use Rattle.schema_plan.specs.declared.site.Site.{Site}
 use Rattle.schema_plan.specs.declared.site.Site.TheVariants.{OfTable}
-use Rattle.schema_plan.specs.Capped.{capped, capped_column, capped_facts, first_facts, is_known_at_most}
-use Rattle.schema_plan.specs.ColumnFacts.{column_facts_at, field_facts}
-use Rattle.schema_plan.specs.FactsBefore.{facts_among, facts_in}
-use Rattle.schema_plan.specs.Citations.{leaves_of, names_in_kind, names_in_leaf}
-use Rattle.schema_plan.specs.Counts.{count}
-use Rattle.schema_plan.specs.Dictionaries.{Project}
-use Rattle.schema_plan.specs.Layout.{layout_of}
-use Rattle.schema_plan.specs.Names.{same_text, is_name}
+use Rattle.schema_facts.specs.Capped.{capped, capped_column, capped_facts, first_facts, is_known_at_most}
+use Rattle.schema_facts.specs.ColumnFacts.{column_facts_at, field_facts}
+use Rattle.schema_facts.specs.FactsBefore.{facts_among, facts_in}
+use Rattle.schema_facts.specs.Counts.{count}
+use Rattle.schema_facts.specs.Dictionaries.{Project}
+use Rattle.schema_facts.specs.Layout.{layout_of}
+use Rattle.schema_facts.specs.Names.{same_text, is_name}
 use Rattle.schema_plan.specs.Rules.{holds, is_new_name, is_new_at}
 use Rattle.schema_plan.specs.Sites.{columns_at}
-use Rattle.schema_plan.specs.TableFacts.{cost, facts_at, max_line}
-use Rattle.schema_plan.proofs.ColumnFactsLemmas.{facts_among-capped}
-use Rattle.schema_plan.proofs.Lists.{list_any-map, map-map}
+use Rattle.schema_facts.specs.TableFacts.{cost, facts_at, max_line}
+use Rattle.schema_facts.proofs.ColumnFactsLemmas.{facts_among-capped}
+use Rattle.schema_facts.proofs.Lists.{list_any-map, map-map}
 
 take-map : {A B : Type 0} (f : A → B) (i : ℕ) (xs : List A) → take i (map f xs) ≡ map f (take i xs)
 take-map f zero xs = refl
@@ -69,11 +66,6 @@ is_known-range number count place limit within below =
         ap (λ test. test || nat_le (get_or known place 0) limit) is_before
         ∙ ap (λ n. nat_le n limit) (get_or-map-range_with_len (λ p. capped (number p)) 0 (min count 64) place place 0 (omega arith) (omega arith))
         ∙ capped-test (number place) limit below
-
--- what is no list cites what its drawn values cite
-pub names_in_kind-drawn : (held : Kind) → ((file : List ℕ) → held ≡ kind.List file → ⊥) → names_in_kind held ≡ flat_map names_in_leaf (leaves_of held)
-names_in_kind-drawn (kind.List file) no_list = absurd (no_list file refl)
-names_in_kind-drawn _ no_list = refl
 
 -- a test of a rule at a site
 pub holds_at : (rule own : Rule) (project : Project) (site at : Site) (test : Bool) → rule ≡ own → site ≡ at → test ≡ holds own project at → test ≡ holds rule project site

@@ -6,7 +6,7 @@ use Rattle.schema_plan.specs.declared.broken.Broken.{Broken}
 use Rattle.schema_check.specs.declared.checker.CheckFault.{CheckFault}
 use Rattle.schema_plan.specs.declared.rules.Rule.TheVariants.{CitedNames}
 use Rattle.schema_check.specs.declared.checker.CheckFault.TheVariants.{Rule, Memory}
-use Rattle.schema_plan.specs.Dictionaries.{Project, project_of}
+use Rattle.schema_facts.specs.Dictionaries.{Project, project_of}
 use Rattle.schema_plan.specs.Rules.{broken_rule, first_broken, rule_number, IsAccepted}
 use Rattle.schema_plan.specs.Sites.{table_number, column_number}
 

@@ -1,8 +1,8 @@
 //! A schema with its dictionaries, while its rules are tried.
 
-use crate::cited_names::CitedNames;
+use schema_facts::{Dictionaries, TableFacts};
 use schema_model::Schema;
-use schema_plan::{Dictionaries, TableFacts};
+use schema_plan::CitedNames;
 use std::marker::Model;
 
 /// A schema with its dictionaries, and what is worked out before the rules are tried. A contract sees the schema and the dictionaries.
@@ -16,9 +16,9 @@ pub(crate) struct Candidate<'a> {
 
 impl<'a> Model for Candidate<'a> {
     ghost use Rattle.std.specs.Prelude.{◌≡◌};
-    ghost use Rattle.schema_plan.specs.Capped.{first_facts};
+    ghost use Rattle.schema_facts.specs.Capped.{first_facts};
     ghost use Rattle.schema_plan.specs.Citations.{cited_names};
-    ghost use Rattle.schema_plan.specs.Dictionaries.{Project, project_of};
+    ghost use Rattle.schema_facts.specs.Dictionaries.{Project, project_of};
 
     ghost Value = { Project };
 
@@ -29,9 +29,9 @@ impl<'a> Model for Candidate<'a> {
 
 impl<'a> Candidate<'a> {
     ghost use Rattle.std.specs.Prelude.{◌≡◌};
-    ghost use Rattle.schema_plan.specs.Capped.{first_facts};
+    ghost use Rattle.schema_facts.specs.Capped.{first_facts};
     ghost use Rattle.schema_plan.specs.Citations.{cited_names};
-    ghost use Rattle.schema_plan.specs.Dictionaries.{project_of};
+    ghost use Rattle.schema_facts.specs.Dictionaries.{project_of};
 
     /// Joins a schema with its dictionaries, the names that it cites, and the facts of its first tables.
     pub(crate) fn new(

@@ -1,20 +1,18 @@
 //! The check of a schema.
 
 ghost use Rattle.std.specs.Prelude.{◌≡◌, ◌≢◌, ◌≤◌, None, Some, IfErr, IfOk, IfSome, OnOk};
-ghost use Rattle.schema_plan.specs.Capped.{first_facts};
+ghost use Rattle.schema_facts.specs.Capped.{first_facts};
 ghost use Rattle.schema_plan.specs.Citations.{cited_names};
-ghost use Rattle.schema_plan.specs.Dictionaries.{project_of};
+ghost use Rattle.schema_facts.specs.Dictionaries.{project_of};
 ghost use Rattle.schema_check.specs.Faults.{citation_refusal, refusal_of, told, Tells};
 ghost use Rattle.schema_plan.specs.Rules.{IsAccepted};
 ghost use Rattle.schema_plan.specs.Sites.{column_number, IsSiteOf};
 
 use crate::candidate::Candidate;
-use crate::cited_names::{CitedNames, copied_names};
 use crate::rules::{columns_at, first_break, first_broken};
+use schema_facts::{Dictionaries, MAX_ITEMS, NO_FACTS, TableFacts, fill_facts};
 use schema_model::{Schema, Texts};
-use schema_plan::{
-    Broken, Dictionaries, MAX_ITEMS, NO_FACTS, Plan, Rule, Site, TableFacts, fill_facts,
-};
+use schema_plan::{Broken, CitedNames, Plan, Rule, Site, copied_names};
 use std::alloc::Global;
 
 /// Why a schema has no plan.

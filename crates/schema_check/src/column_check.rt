@@ -5,17 +5,17 @@ ghost use Rattle.std.specs.List.{list_all};
 ghost use Rattle.schema_plan.specs.Citations.{citable_in, may_cite_in};
 ghost use Rattle.schema_plan.specs.Rules.{are_columns_supplied, are_in_range, is_supplied_kind_by, keeps_column_rules};
 
-use crate::cited_names::{CitedNames, copied_names, is_citable_kind, is_supplied_kind};
 use crate::column_rules::{is_change, is_null_share};
 use crate::later_date_rules::is_later_date;
 use crate::leaf_rules::{
-    are_date_ranges, are_length_ranges, are_number_ranges, are_skew_ranges, are_weighted, leaves_of,
+    are_date_ranges, are_length_ranges, are_number_ranges, are_skew_ranges, are_weighted,
 };
 use crate::rules::is_new_column;
 use crate::total_rules::is_total;
 use out_of_memory::Memory;
+use schema_facts::{ColumnFacts, Dictionaries};
 use schema_model::{Column, Kind, Texts};
-use schema_plan::{ColumnFacts, Dictionaries};
+use schema_plan::{CitedNames, copied_names, is_citable_kind, is_supplied_kind, leaves_of};
 use std::alloc::Global;
 
 /// Whether the column at a place, by its facts, keeps the rules on the names of columns, on drawn values, on changes and nulls, on dates

@@ -2,11 +2,11 @@
 
 ghost use Rattle.std.specs.Prelude.{◌≡◌, ◌<◌, ◌≤◌, ◌||◌, length};
 ghost use Rattle.std.specs.List.{list_all};
-ghost use Rattle.schema_plan.specs.Layout.{place_of_column};
+ghost use Rattle.schema_facts.specs.Layout.{place_of_column};
 ghost use Rattle.schema_plan.specs.Rules.{cites_still, is_case, is_change, is_citable, is_moving_kind, is_null_share, is_part, is_pick_of, is_still_kind, is_still_part, is_template, kind_at, may_be_redrawn, moves_at};
 
+use schema_facts::{becomes_null, place_of_column};
 use schema_model::{Column, Kind, Leaf, Part, Text};
-use schema_plan::{becomes_null, place_of_column};
 
 /// The most parts of a template.
 const MAX_PARTS: usize = 32;

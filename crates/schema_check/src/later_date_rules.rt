@@ -4,8 +4,8 @@ ghost use Rattle.std.specs.Prelude.{◌≡◌, ◌<◌, length};
 ghost use Rattle.schema_plan.specs.Rules.{is_after_range, is_later_date, kind_at};
 
 use crate::column_rules::is_moving;
+use schema_facts::Days;
 use schema_model::{Column, Kind};
-use schema_plan::Days;
 
 /// The most days between a date and the one that it follows.
 const MAX_DAYS: i64 = 36_525;

@@ -3,7 +3,7 @@
 ghost use Rattle.std.specs.Prelude.{◌≡◌, ℕ, ◌<◌, ◌↔◌, Some, slice_get};
 ghost use Rattle.schema_plan.specs.declared.broken.Broken.{Broken};
 ghost use Rattle.schema_plan.specs.declared.rules.Rule.{Rule};
-ghost use Rattle.schema_plan.specs.Dictionaries.{AreWordLists, Project};
+ghost use Rattle.schema_facts.specs.Dictionaries.{AreWordLists, Project};
 ghost use Rattle.schema_plan.specs.Limits.{IsInLimits};
 ghost use Rattle.schema_plan.specs.Rules.{first_broken, IsAccepted, IsFirstBreak, Keeps, rules};
 

@@ -3,14 +3,12 @@
 ghost use Rattle.std.specs.Prelude.{◌≡◌, ◌-◌, ◌^◌, ◌&&◌, ◌+ℤ◌, ◌-ℤ◌, ◌≤ℤ◌, int_le, length, map, nat_le, pos, sum};
 ghost use Rattle.std.specs.List.{list_all};
 ghost use Rattle.std.specs.Str.{chars};
-ghost use Rattle.schema_plan.specs.Capped.{capped};
-ghost use Rattle.schema_plan.specs.Citations.{leaves_of};
-ghost use Rattle.schema_plan.specs.Counts.{count};
+ghost use Rattle.schema_facts.specs.Capped.{capped};
+ghost use Rattle.schema_facts.specs.Counts.{count};
 ghost use Rattle.schema_plan.specs.Rules.{is_date_range, is_length_between, is_length_range, is_number_range, is_range, is_skew_range, is_weighted};
 
-use schema_model::{Kind, Leaf};
-use schema_plan::count;
-use std::slice;
+use schema_facts::count;
+use schema_model::Leaf;
 
 /// The most digits after a point.
 const MAX_DECIMALS: i64 = 9;
@@ -38,17 +36,6 @@ const MAX_LENGTH: i64 = 1_000;
 
 /// The most characters of an alphabet.
 const MAX_CHARACTERS: usize = 256;
-
-/// Returns the values that are drawn for a column: that of a leaf, or those of the branches of a case.
-pub(crate) fn leaves_of(kind: &Kind) -> &[Leaf]
-    ensures { result.now ≡ leaves_of kind.now }
-{
-    match kind {
-        Kind::Leaf(leaf) => slice::from_ref(leaf),
-        Kind::Case { branches, .. } => branches.as_slice(),
-        _ => &[],
-    }
-}
 
 /// Whether the numbers among some drawn values have ranges. Their steps are at least 1, or their decimals 0 to 9.
 pub(crate) fn are_number_ranges(leaves: &[Leaf]) -> bool

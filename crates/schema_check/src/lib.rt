@@ -6,7 +6,6 @@
 
 mod candidate;
 mod checker;
-mod cited_names;
 mod column_check;
 mod column_rules;
 mod later_date_rules;

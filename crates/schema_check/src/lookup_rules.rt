@@ -4,8 +4,8 @@ ghost use Rattle.std.specs.Prelude.{◌≡◌, ◌<◌, length};
 ghost use Rattle.schema_plan.specs.Rules.{has_still_column, is_looked_up, is_lookup, is_lookup_kind, kind_at};
 
 use crate::column_rules::moves;
+use schema_facts::{columns_of, place_of_column, place_of_table};
 use schema_model::{Column, Kind, OnDelete, Table, Text};
-use schema_plan::{columns_of, place_of_column, place_of_table};
 
 /// Whether the column at a place keeps the rule of lookups. A lookup names an earlier cascading reference, and a column of the parent's
 /// table that doesn't move and is no lookup.

@@ -2,7 +2,7 @@
 
 ghost use Rattle.std.specs.Prelude.{◌≡◌};
 ghost use Rattle.std.specs.List.{list_all};
-ghost use Rattle.schema_plan.specs.Names.{is_name, begins_with_letter, is_letter, is_name_byte};
+ghost use Rattle.schema_facts.specs.Names.{is_name, begins_with_letter, is_letter, is_name_byte};
 
 use schema_model::Text;
 

@@ -4,8 +4,8 @@ ghost use Rattle.std.specs.Prelude.{◌≡◌};
 ghost use Rattle.std.specs.List.{list_all};
 ghost use Rattle.schema_plan.specs.Rules.{are_paddings, is_padding, is_whole_kind, is_whole_leaf, kind_at};
 
+use schema_facts::{MAX_WIDTH, place_of_column};
 use schema_model::{Column, Kind, Leaf, Part};
-use schema_plan::{MAX_WIDTH, place_of_column};
 
 /// Whether a kind keeps the rule of padded parts. Each is padded to 1 to 64 bytes, and cites a column of whole numbers. The columns are
 /// those of its table.

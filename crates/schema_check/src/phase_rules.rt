@@ -2,13 +2,14 @@
 
 ghost use Rattle.std.specs.Prelude.{◌≡◌, ◌≤◌, pos};
 ghost use Rattle.cohort_sizes.specs.Births.{born_count};
-ghost use Rattle.schema_plan.specs.Capped.{capped};
-ghost use Rattle.schema_plan.specs.Layout.{births_of};
+ghost use Rattle.schema_facts.specs.Capped.{capped};
+ghost use Rattle.schema_facts.specs.Layout.{births_of};
 ghost use Rattle.schema_plan.specs.Rules.{are_phases, do_phases_rise, is_row_count};
 
 use crate::rules::MAX_UNITS;
+use schema_facts::count;
 use schema_model::{Phase, Table};
-use schema_plan::{cohort_size, count};
+use schema_plan::cohort_size;
 
 /// The most phases of a table.
 const MAX_PHASES: usize = 64;

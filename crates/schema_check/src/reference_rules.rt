@@ -4,15 +4,16 @@ ghost use Rattle.std.specs.Prelude.{◌≡◌, ◌<◌, ◌≤◌, ◌||◌, fal
 ghost use Rattle.std.specs.List.{list_all};
 ghost use Rattle.std.specs.Option.{option_map_or};
 ghost use Rattle.cohort_sizes.specs.Births.{cohort_size};
-ghost use Rattle.schema_plan.specs.Counts.{count};
-ghost use Rattle.schema_plan.specs.Layout.{births_of, place_of_table, window_layout};
-ghost use Rattle.schema_plan.specs.References.{window_start};
+ghost use Rattle.schema_facts.specs.Counts.{count};
+ghost use Rattle.schema_facts.specs.Layout.{births_of, place_of_table, window_layout};
+ghost use Rattle.schema_facts.specs.References.{window_start};
 ghost use Rattle.schema_plan.specs.Rules.{has_parent_rows, has_parents, is_between, is_reference, is_spread, is_target, is_window, is_within_life, kind_at, references_before, table_in};
 
 use crate::candidate::Candidate;
 use crate::rules::MAX_UNITS;
+use schema_facts::{MAX_ITEMS, count, lineage_at, place_of_table};
 use schema_model::{Column, Kind, Schema, Table, Text, Window};
-use schema_plan::{MAX_ITEMS, cohort_size, count, lineage_at, place_of_table};
+use schema_plan::cohort_size;
 
 /// The most references of a table.
 const MAX_REFERENCES: usize = 8;

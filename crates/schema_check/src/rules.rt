@@ -2,18 +2,17 @@
 
 ghost use Rattle.std.specs.Prelude.{◌≡◌, ◌<◌, ◌&&◌, ◌||◌, IfSome, int_le, length, map, nat_le, pos};
 ghost use Rattle.std.specs.List.{list_any};
-ghost use Rattle.schema_plan.specs.Capped.{is_known_at_most};
-ghost use Rattle.schema_plan.specs.FactsBefore.{facts_in};
-ghost use Rattle.schema_plan.specs.Names.{same_text};
+ghost use Rattle.schema_facts.specs.Capped.{is_known_at_most};
+ghost use Rattle.schema_facts.specs.FactsBefore.{facts_in};
+ghost use Rattle.schema_facts.specs.Names.{same_text};
 ghost use Rattle.schema_plan.specs.Rules.{break_in_table, first_break, first_broken, holds, is_between, is_key_first, is_later_date, is_life, is_new_at, is_one_to_64, is_total, is_update_period, kind_at};
 ghost use Rattle.schema_plan.specs.Sites.{columns_at, IsSiteOf};
 
 use crate::candidate::Candidate;
-use crate::cited_names::{is_citable_kind, is_supplied_kind};
 use crate::column_rules::{cites_still, is_case, is_change, is_null_share, is_template};
 use crate::later_date_rules::is_later_date;
 use crate::leaf_rules::{
-    are_date_ranges, are_length_ranges, are_number_ranges, are_skew_ranges, are_weighted, leaves_of,
+    are_date_ranges, are_length_ranges, are_number_ranges, are_skew_ranges, are_weighted,
 };
 use crate::lookup_rules::is_lookup;
 use crate::names::is_name;
@@ -22,8 +21,9 @@ use crate::phase_rules::is_row_count;
 use crate::reference_rules::{has_parents, is_spread, is_target, is_window};
 use crate::total_rules::is_total;
 use crate::unit_date_rules::is_unit_date;
+use schema_facts::{MAX_ITEMS, TableFacts};
 use schema_model::{Column, Kind, Life, Schema, Table, Text};
-use schema_plan::{Broken, MAX_ITEMS, Rule, Site, TableFacts};
+use schema_plan::{Broken, Rule, Site, is_citable_kind, is_supplied_kind, leaves_of};
 
 /// The greatest last unit.
 pub(crate) const MAX_UNITS: i64 = 10_000;

@@ -4,8 +4,8 @@ ghost use Rattle.std.specs.Prelude.{◌≡◌, ◌<◌, length};
 ghost use Rattle.schema_plan.specs.Rules.{are_still_names, is_total, joins, kind_at};
 
 use crate::column_rules::is_moving;
+use schema_facts::Numbers;
 use schema_model::{Column, Kind, Text};
-use schema_plan::Numbers;
 
 /// The most operands of a sum.
 const MAX_SUMMANDS: usize = 8;

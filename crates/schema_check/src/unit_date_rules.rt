@@ -1,13 +1,13 @@
 //! What the rules ask of the dates of units.
 
 ghost use Rattle.std.specs.Prelude.{◌≡◌, ◌*◌, ◌≤◌, ◌+ℤ◌, ◌≤ℤ◌, int_le, pos};
-ghost use Rattle.schema_plan.specs.Counts.{count};
+ghost use Rattle.schema_facts.specs.Counts.{count};
 ghost use Rattle.schema_plan.specs.Rules.{are_unit_days, is_unit_date};
 
 use crate::leaf_rules::{FIRST_DAY, LAST_DAY};
 use crate::rules::MAX_UNITS;
+use schema_facts::count;
 use schema_model::Kind;
-use schema_plan::count;
 
 /// The most days from one unit to the next.
 const MAX_STEP: i64 = 3_660;

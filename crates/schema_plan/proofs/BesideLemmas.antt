@@ -4,18 +4,18 @@ use Rattle.std.specs.List.{range_with_len}
 use Rattle.std.proofs.lemmas.List.{get_or-map, length-map, take-map}
 use Rattle.std.proofs.lemmas.List.FromFn.{fill_by_all, get_or-range_with_len, length-range_with_len}
 use Rattle.schema_model.specs.declared.table.Table.{Table}
-use Rattle.schema_plan.specs.declared.column_facts.ColumnFacts.{ColumnFacts}
-use Rattle.schema_plan.specs.declared.facts.TableFacts.{TableFacts}
+use Rattle.schema_facts.specs.declared.column_facts.ColumnFacts.{ColumnFacts}
+use Rattle.schema_facts.specs.declared.facts.TableFacts.{TableFacts}
 use Rattle.schema_plan.specs.Beside.{facts_beside}
-use Rattle.schema_plan.specs.Capped.{capped_column, capped_facts, first_facts}
-use Rattle.schema_plan.specs.ColumnFacts.{column_facts, column_facts_at, facts_of_columns, facts_of_kind}
-use Rattle.schema_plan.specs.Dictionaries.{Project}
-use Rattle.schema_plan.specs.FactsBefore.{facts_among, no_facts}
-use Rattle.schema_plan.specs.Layout.{KindLayout, Layout, TableLayout, column_at, layout_of, table_layout}
-use Rattle.schema_plan.specs.TableFacts.{facts_at}
-use Rattle.schema_plan.proofs.ColumnFactsLemmas.{facts_among-capped, facts_of_kind-capped, length-column_facts}
-use Rattle.schema_plan.proofs.FieldFactsLemmas.{AreFactsOf}
-use Rattle.schema_plan.proofs.Lists.{get_or-in_turn, map-map}
+use Rattle.schema_facts.specs.Capped.{capped_column, capped_facts, first_facts}
+use Rattle.schema_facts.specs.ColumnFacts.{column_facts, column_facts_at, facts_of_columns, facts_of_kind}
+use Rattle.schema_facts.specs.Dictionaries.{Project}
+use Rattle.schema_facts.specs.FactsBefore.{facts_among, no_facts}
+use Rattle.schema_facts.specs.Layout.{KindLayout, Layout, TableLayout, column_at, layout_of, table_layout}
+use Rattle.schema_facts.specs.TableFacts.{facts_at}
+use Rattle.schema_facts.proofs.ColumnFactsLemmas.{facts_among-capped, facts_of_kind-capped, length-column_facts}
+use Rattle.schema_facts.proofs.FieldFactsLemmas.{AreFactsOf}
+use Rattle.schema_facts.proofs.Lists.{get_or-in_turn, map-map}
 
 -- the facts of the columns of all tables, as they are kept
 pub all_facts : (project : Project) → length project.schema.tables ≤ 64 →

@@ -4,13 +4,13 @@ use Rattle.std.proofs.lemmas.List.{get_or-map, length-map}
 use Rattle.std.proofs.lemmas.List.Sums.{get_or-le-sum_by}
 use Rattle.schema_model.specs.declared.column.Column.{Column}
 use Rattle.schema_model.specs.declared.table.Table.{Table}
-use Rattle.schema_plan.specs.Capped.{capped}
-use Rattle.schema_plan.specs.Dictionaries.{Project}
-use Rattle.schema_plan.specs.FieldSizes.{field_sizes, size_of}
-use Rattle.schema_plan.specs.Layout.{ColumnLayout, Layout, TableLayout, column_at, column_layout, kind_layout, layout_of, no_column, table_at, table_layout}
+use Rattle.schema_facts.specs.Capped.{capped}
+use Rattle.schema_facts.specs.Dictionaries.{Project}
+use Rattle.schema_facts.specs.FieldSizes.{field_sizes, size_of}
+use Rattle.schema_facts.specs.Layout.{ColumnLayout, Layout, TableLayout, column_at, column_layout, kind_layout, layout_of, no_column, table_at, table_layout}
 use Rattle.schema_plan.specs.Limits.{IsInLimits}
-use Rattle.schema_plan.specs.TableFacts.{max_line}
-use Rattle.schema_plan.proofs.FactsLemmas.{table_at-is}
+use Rattle.schema_facts.specs.TableFacts.{max_line}
+use Rattle.schema_facts.proofs.FactsLemmas.{table_at-is}
 
 -- the size of the column at a place, as the layout has it
 abbrev pub size_for : Layout → ℕ → ℕ → ℕ

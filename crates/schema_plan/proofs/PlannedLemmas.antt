@@ -8,17 +8,17 @@ use Rattle.std.proofs.lemmas.List.Sums.{sum_by-cons}
 use Rattle.cohort_sizes.specs.Births.{Births}
 use Rattle.cohort_sizes.specs.Kept.{BirthsUpTo}
 use Rattle.schema_model.specs.declared.table.Table.{Table}
-use Rattle.schema_plan.specs.declared.column_facts.ColumnFacts.{ColumnFacts}
-use Rattle.schema_plan.specs.declared.facts.TableFacts.{TableFacts}
-use Rattle.schema_plan.specs.Counts.{count}
-use Rattle.schema_plan.specs.Capped.{capped, capped_column, capped_facts, capped_lineage, first_facts}
-use Rattle.schema_plan.specs.Dictionaries.{Project}
-use Rattle.schema_plan.specs.FieldSizes.{greatest_by}
-use Rattle.schema_plan.specs.Layout.{Layout, TableLayout, births_of, layout_of, no_table, table_at, table_layout}
+use Rattle.schema_facts.specs.declared.column_facts.ColumnFacts.{ColumnFacts}
+use Rattle.schema_facts.specs.declared.facts.TableFacts.{TableFacts}
+use Rattle.schema_facts.specs.Counts.{count}
+use Rattle.schema_facts.specs.Capped.{capped, capped_column, capped_facts, capped_lineage, first_facts}
+use Rattle.schema_facts.specs.Dictionaries.{Project}
+use Rattle.schema_facts.specs.FieldSizes.{greatest_by}
+use Rattle.schema_facts.specs.Layout.{Layout, TableLayout, births_of, layout_of, no_table, table_at, table_layout}
 use Rattle.schema_plan.specs.Limits.{AreBirthsInLimits, IsInLimits, IsTableInLimits}
 use Rattle.schema_plan.specs.Planned.{births_through}
-use Rattle.schema_plan.specs.TableFacts.{facts_at, line_cost, line_of_table, max_line, reach, sum_of_costs}
-use Rattle.schema_plan.proofs.Lists.{map-same}
+use Rattle.schema_facts.specs.TableFacts.{facts_at, line_cost, line_of_table, max_line, reach, sum_of_costs}
+use Rattle.schema_facts.proofs.Lists.{map-same}
 
 -- no cost of some columns is past the end of 64 bits where their sum isn't
 costs_whole : (columns : List ColumnFacts) → sum_of_costs columns < 2 ^ 64 → map capped_column columns ≡ columns

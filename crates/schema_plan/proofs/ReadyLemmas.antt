@@ -11,14 +11,14 @@ use Rattle.schema_model.specs.declared.column.Kind.TheVariants as kind
 use Rattle.schema_model.specs.declared.column.Leaf.{Leaf}
 use Rattle.schema_plan.specs.declared.ready.ReadyColumn.{ReadyColumn}
 use Rattle.schema_plan.specs.Citations.{leaves_of}
-use Rattle.schema_plan.specs.Counts.{count}
-use Rattle.schema_plan.specs.Delimiters.{delimiter_byte}
-use Rattle.schema_plan.specs.Dictionaries.{Dictionary, Project}
-use Rattle.schema_plan.specs.Layout.{ColumnLayout, TableLayout, column_at, column_layout, kind_layout, layout_of, leaf_layout, no_column, no_table, table_at, table_layout, table_layouts}
+use Rattle.schema_facts.specs.Counts.{count}
+use Rattle.schema_facts.specs.Delimiters.{delimiter_byte}
+use Rattle.schema_facts.specs.Dictionaries.{Dictionary, Project}
+use Rattle.schema_facts.specs.Layout.{ColumnLayout, TableLayout, column_at, column_layout, kind_layout, layout_of, leaf_layout, no_column, no_table, table_at, table_layout, table_layouts}
 use Rattle.schema_plan.specs.Limits.{CanBeReady, IsAfterOf, IsInLimits, IsKindInLimits, IsLeafInLimits, IsListOf, IsSpreadOf, IsTableInLimits}
 use Rattle.schema_plan.specs.Ready.{ready_column, ready_columns}
-use Rattle.schema_plan.proofs.FactsLemmas.{table_at-is}
-use Rattle.schema_plan.proofs.Lists.{map-map}
+use Rattle.schema_facts.proofs.FactsLemmas.{table_at-is}
+use Rattle.schema_facts.proofs.Lists.{map-map}
 
 -- ---- limits
 

@@ -7,9 +7,11 @@ use Rattle.std.proofs.lemmas.List.{flat_map_more, length-take, take-append-drop,
 use Rattle.std.proofs.lemmas.List.Folds.{list_any-append}
 use Rattle.std.proofs.lemmas.Option.{get_or_from_slice_get, slice_get_within}
 use Rattle.dictionaries.specs.WordList.{IsWordList}
-use Rattle.schema_plan.specs.Citations.{has_name, with_name}
-use Rattle.schema_plan.specs.Dictionaries.{Dictionary, no_words}
-use Rattle.schema_plan.specs.Names.{same_text}
+use Rattle.schema_model.specs.declared.column.Kind.{Kind}
+use Rattle.schema_model.specs.declared.column.Kind.TheVariants as kind
+use Rattle.schema_plan.specs.Citations.{has_name, leaves_of, names_in_kind, names_in_leaf, with_name}
+use Rattle.schema_facts.specs.Dictionaries.{Dictionary, no_words}
+use Rattle.schema_facts.specs.Names.{same_text}
 
 -- one more item of a list
 pub take_more_got : {A : Type 0} (xs : List A) (i : ℕ) (x : A) → slice_get xs i ≡ Some x → take (i + 1) xs ≡ take i xs ++ x ∷ []
@@ -18,6 +20,11 @@ take_more_got xs i x at =
     ∙ ap (λ y. take i xs ++ y ∷ []) (get_or_from_slice_get xs i x x at)
 
 -- ---- the first names
+
+-- what is no list cites what its drawn values cite
+pub names_in_kind-drawn : (held : Kind) → ((file : List ℕ) → held ≡ kind.List file → ⊥) → names_in_kind held ≡ flat_map names_in_leaf (leaves_of held)
+names_in_kind-drawn (kind.List file) no_list = absurd (no_list file refl)
+names_in_kind-drawn _ no_list = refl
 
 -- a name that isn't among the first ones, of which there are fewer than 64, joins them
 pub name_joins : (before : List (List ℕ)) (name : List ℕ) → length (take 64 before) < 64 → has_name (take 64 before) name ≡ false → take 64 before ++ name ∷ [] ≡ take 64 (with_name before name)

@@ -2,15 +2,15 @@
 use Rattle.std.specs.Prelude.{ℕ, List, map}
 use Rattle.schema_model.specs.declared.column.Column.{Column}
 use Rattle.schema_model.specs.declared.table.Table.{Table}
-use Rattle.schema_plan.specs.declared.column_facts.ColumnFacts.{ColumnFacts}
+use Rattle.schema_facts.specs.declared.column_facts.ColumnFacts.{ColumnFacts}
 use Rattle.schema_plan.specs.declared.ready.ReadyColumn.{ReadyColumn}
-use Rattle.schema_plan.specs.Capped.{capped_column}
-use Rattle.schema_plan.specs.ColumnFacts.{column_facts, facts_of_columns}
-use Rattle.schema_plan.specs.Dictionaries.{Dictionary, Project}
-use Rattle.schema_plan.specs.FieldSizes.{field_sizes}
-use Rattle.schema_plan.specs.Layout.{column_layout, layout_of, table_layout, table_layouts}
+use Rattle.schema_facts.specs.Capped.{capped_column}
+use Rattle.schema_facts.specs.ColumnFacts.{column_facts, facts_of_columns}
+use Rattle.schema_facts.specs.Dictionaries.{Dictionary, Project}
+use Rattle.schema_facts.specs.FieldSizes.{field_sizes}
+use Rattle.schema_facts.specs.Layout.{column_layout, layout_of, table_layout, table_layouts}
 use Rattle.schema_plan.specs.Ready.{ready_column}
-use Rattle.schema_plan.specs.TableFacts.{line_size}
+use Rattle.schema_facts.specs.TableFacts.{line_size}
 
 -- the facts of its first 64 columns, in order, with costs that stand at the last of 64 bits where they are past it. No fact speaks of words,
 -- so none asks for a dictionary

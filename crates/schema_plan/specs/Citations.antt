@@ -7,7 +7,7 @@ use Rattle.schema_model.specs.declared.column.Kind.{Kind}
 use Rattle.schema_model.specs.declared.column.Kind.TheVariants as kind
 use Rattle.schema_model.specs.declared.column.Leaf.{Leaf}
 use Rattle.schema_model.specs.declared.column.Leaf.TheVariants as drawn
-use Rattle.schema_plan.specs.Names.{same_text}
+use Rattle.schema_facts.specs.Names.{same_text}
 
 -- the dictionaries that a drawn value cites
 abbrev pub names_in_leaf : Leaf → List (List ℕ)

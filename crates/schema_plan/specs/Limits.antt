@@ -4,18 +4,18 @@ use Rattle.std.specs.Str.{chars}
 use Rattle.dictionaries.specs.WordList.{IsWordList}
 use Rattle.schema_model.specs.declared.column.Kind.{Kind}
 use Rattle.schema_model.specs.declared.column.Kind.TheVariants as kind
-use Rattle.schema_plan.specs.declared.column_facts.ColumnFacts.{ColumnFacts}
-use Rattle.schema_plan.specs.declared.layout.Span.{Span}
+use Rattle.schema_facts.specs.declared.column_facts.ColumnFacts.{ColumnFacts}
+use Rattle.schema_facts.specs.declared.layout.Span.{Span}
 use Rattle.schema_plan.specs.Citations.{leaves_of}
 use Rattle.cohort_sizes.specs.Births.{Births, born_count}
 use Rattle.cohort_sizes.specs.Rates.{AreRates}
-use Rattle.schema_plan.specs.ColumnFacts.{column_facts_at}
-use Rattle.schema_plan.specs.Counts.{count}
-use Rattle.schema_plan.specs.Dictionaries.{Dictionary, Project, words_named}
-use Rattle.schema_plan.specs.FactsBefore.{facts_among}
-use Rattle.schema_plan.specs.Layout.{LeafLayout, int_leaf, fixed_leaf, date_leaf, pick_leaf, skew_leaf, dict_leaf, words_leaf, chars_leaf, uuid_leaf, PartLayout, literal_part, cited_part, KindLayout, key_kind, born_kind, changed_kind, leaf_kind, template_kind, case_kind, reference_kind, lookup_kind, ColumnLayout, column_at, Layout, TableLayout, layout_of, leaf_layout, table_at, list_kind, unit_date_kind, after_kind, sum_kind, product_kind}
-use Rattle.schema_plan.specs.References.{IsReferenceInLimits, IsSpread, Reference, reference_at, references_of}
-use Rattle.schema_plan.specs.TableFacts.{cost, max_line}
+use Rattle.schema_facts.specs.ColumnFacts.{column_facts_at}
+use Rattle.schema_facts.specs.Counts.{count}
+use Rattle.schema_facts.specs.Dictionaries.{Dictionary, Project, words_named}
+use Rattle.schema_facts.specs.FactsBefore.{facts_among}
+use Rattle.schema_facts.specs.Layout.{LeafLayout, int_leaf, fixed_leaf, date_leaf, pick_leaf, skew_leaf, dict_leaf, words_leaf, chars_leaf, uuid_leaf, PartLayout, literal_part, cited_part, KindLayout, key_kind, born_kind, changed_kind, leaf_kind, template_kind, case_kind, reference_kind, lookup_kind, ColumnLayout, column_at, Layout, TableLayout, layout_of, leaf_layout, table_at, list_kind, unit_date_kind, after_kind, sum_kind, product_kind}
+use Rattle.schema_facts.specs.References.{IsReferenceInLimits, IsSpread, Reference, reference_at, references_of}
+use Rattle.schema_facts.specs.TableFacts.{cost, max_line}
 
 -- a number that isn't below 0
 abbrev pub IsCount : ℤ → Type 0

@@ -4,16 +4,16 @@ use Rattle.std.specs.List.{position, range_with_len}
 use Rattle.schema_model.specs.declared.table.Schema.{Schema}
 use Rattle.schema_model.specs.declared.table.Table.{Table}
 use Rattle.cohort_sizes.specs.Kept.{BirthsUpTo}
-use Rattle.schema_plan.specs.declared.facts.TableFacts.{TableFacts}
+use Rattle.schema_facts.specs.declared.facts.TableFacts.{TableFacts}
 use Rattle.schema_plan.specs.declared.ready.ReadyColumn.{ReadyColumn}
-use Rattle.schema_plan.specs.Counts.{count}
-use Rattle.schema_plan.specs.Dictionaries.{Project}
-use Rattle.schema_plan.specs.Layout.{births_of, layout_of}
+use Rattle.schema_facts.specs.Counts.{count}
+use Rattle.schema_facts.specs.Dictionaries.{Project}
+use Rattle.schema_facts.specs.Layout.{births_of, layout_of}
 use Rattle.schema_plan.specs.Limits.{IsInLimits}
-use Rattle.schema_plan.specs.Names.{same_text}
+use Rattle.schema_facts.specs.Names.{same_text}
 use Rattle.schema_plan.specs.Ready.{ready_columns}
 use Rattle.schema_plan.specs.Rules.{IsAccepted}
-use Rattle.schema_plan.specs.TableFacts.{facts_at, reach}
+use Rattle.schema_facts.specs.TableFacts.{facts_at, reach}
 
 -- the births of a table, and the last unit of which its cohorts are told
 abbrev pub births_through : ℕ → Table → BirthsUpTo

@@ -11,8 +11,8 @@ use Rattle.schema_plan.specs.declared.ready.ReadyPart.TheVariants as part
 use Rattle.schema_plan.specs.declared.ready.ReadyReference.{ReadyReference}
 use Rattle.schema_plan.specs.declared.ready.ReadyLeaf.{ReadyLeaf}
 use Rattle.schema_plan.specs.declared.ready.ReadyLeaf.TheVariants as leaf
-use Rattle.schema_plan.specs.Choices.{choices}
-use Rattle.schema_plan.specs.Layout.{LeafLayout, int_leaf, fixed_leaf, date_leaf, pick_leaf, skew_leaf, dict_leaf, words_leaf, chars_leaf, uuid_leaf, PartLayout, literal_part, cited_part, KindLayout, key_kind, born_kind, changed_kind, leaf_kind, template_kind, case_kind, reference_kind, lookup_kind, ColumnLayout, Layout, table_at, list_kind, unit_date_kind, after_kind, sum_kind, product_kind}
+use Rattle.schema_facts.specs.Choices.{choices}
+use Rattle.schema_facts.specs.Layout.{LeafLayout, int_leaf, fixed_leaf, date_leaf, pick_leaf, skew_leaf, dict_leaf, words_leaf, chars_leaf, uuid_leaf, PartLayout, literal_part, cited_part, KindLayout, key_kind, born_kind, changed_kind, leaf_kind, template_kind, case_kind, reference_kind, lookup_kind, ColumnLayout, Layout, table_at, list_kind, unit_date_kind, after_kind, sum_kind, product_kind}
 use Rattle.schema_plan.specs.ReadyWords.{written_words}
 
 -- a value that is drawn for a field alone: the number of choices of a range, the weights with their sum, entries as they are written

@@ -2,7 +2,7 @@
 use Rattle.std.specs.Prelude.{◌≡◌, ℕ, List, length, map, sum}
 use Rattle.dictionaries.specs.WordList.{WordList}
 use Rattle.row_text.specs.Fields.{escaped_text}
-use Rattle.schema_plan.specs.Dictionaries.{Dictionary}
+use Rattle.schema_facts.specs.Dictionaries.{Dictionary}
 
 -- a word list with its entries as they are written
 abbrev pub written_words : ℕ → WordList → WordList

@@ -19,24 +19,24 @@ use Rattle.schema_model.specs.declared.column.Part.TheVariants as part
 use Rattle.schema_model.specs.declared.column.Window.{Window}
 use Rattle.schema_model.specs.declared.column.Window.TheVariants as window
 use Rattle.schema_plan.specs.declared.broken.Broken.{Broken}
-use Rattle.schema_plan.specs.declared.column_facts.ColumnFacts.{ColumnFacts}
-use Rattle.schema_plan.specs.declared.days.Days.{Days}
-use Rattle.schema_plan.specs.declared.numbers.Numbers.{Numbers}
+use Rattle.schema_facts.specs.declared.column_facts.ColumnFacts.{ColumnFacts}
+use Rattle.schema_facts.specs.declared.days.Days.{Days}
+use Rattle.schema_facts.specs.declared.numbers.Numbers.{Numbers}
 use Rattle.cohort_sizes.specs.Births.{Births, born_count, cohort_size}
 use Rattle.schema_plan.specs.declared.rules.Rule.{Rule}
 use Rattle.schema_plan.specs.declared.rules.Rule.TheVariants.{Dictionaries, CitedNames, SeedAndUnits, TableCount, TableNames, Columns, KeyColumn, RowCount, LifeRange, UpdatePeriod, NumberRange, DateRange, PickEntries, SkewRange, LengthRange, TemplateParts, CaseBranches, StillCitations, ReferenceTargets, ReferenceWindows, ParentRows, SpreadWeights, LookupColumns, RowCost, LineSize, ChangesAndNulls, UnitDates, LaterDates, Totals, PaddedParts}
 use Rattle.schema_plan.specs.declared.site.Site.{Site}
 use Rattle.schema_plan.specs.declared.site.Site.TheVariants.{Whole, OfTable, OfColumn}
 use Rattle.schema_plan.specs.Citations.{cited_in, cited_names, leaves_of, may_cite, may_cite_of_kind, names_in_leaf}
-use Rattle.schema_plan.specs.ColumnFacts.{field_facts}
-use Rattle.schema_plan.specs.Counts.{count}
-use Rattle.schema_plan.specs.Dictionaries.{Dictionary, Project, dictionary_named}
-use Rattle.schema_plan.specs.Layout.{becomes_null, births_of, columns_of, layout_of, place_of_column, place_of_table, window_layout}
-use Rattle.schema_plan.specs.Lineage.{sure_life}
-use Rattle.schema_plan.specs.Names.{same_text, is_name}
-use Rattle.schema_plan.specs.References.{first_in_window}
+use Rattle.schema_facts.specs.ColumnFacts.{field_facts}
+use Rattle.schema_facts.specs.Counts.{count}
+use Rattle.schema_facts.specs.Dictionaries.{Dictionary, Project, dictionary_named}
+use Rattle.schema_facts.specs.Layout.{becomes_null, births_of, columns_of, layout_of, place_of_column, place_of_table, window_layout}
+use Rattle.schema_facts.specs.Lineage.{sure_life}
+use Rattle.schema_facts.specs.Names.{same_text, is_name}
+use Rattle.schema_facts.specs.References.{first_in_window}
 use Rattle.schema_plan.specs.Sites.{columns_at, IsSiteOf, IsBefore}
-use Rattle.schema_plan.specs.TableFacts.{cost, max_line}
+use Rattle.schema_facts.specs.TableFacts.{cost, max_line}
 
 -- ---- what rules ask
 

@@ -2,18 +2,15 @@
 
 ghost use Rattle.std.specs.Prelude.{◌≡◌, All, IfOk};
 ghost use Rattle.schema_plan.specs.Beside.{facts_beside, line_beside, ready_beside};
-ghost use Rattle.schema_plan.specs.Capped.{capped};
+ghost use Rattle.schema_facts.specs.Capped.{capped};
 ghost use Rattle.schema_plan.specs.Limits.{CanBeReady};
 
-use crate::column_facts::{ColumnFacts, facts_of_columns};
-use crate::facts::line_size;
 use crate::plan::Plan;
 use crate::ready::ReadyColumn;
 use crate::ready_columns::ready_columns;
 use crate::ready_words::Lexicon;
-use crate::rules::MAX_ITEMS;
-use crate::word_lists::Dictionaries;
 use out_of_memory::Memory;
+use schema_facts::{ColumnFacts, Dictionaries, MAX_ITEMS, facts_of_columns, line_size};
 use schema_model::{Column, Sequence, Table};
 use std::alloc::Global;
 

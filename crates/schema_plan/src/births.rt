@@ -2,13 +2,13 @@
 
 ghost use Rattle.std.specs.Prelude.{◌≡◌, ◌≤◌, All, IfOk, map};
 ghost use Rattle.cohort_sizes.specs.Births.{cohort_size};
-ghost use Rattle.schema_plan.specs.Layout.{births_of, rate_of};
+ghost use Rattle.schema_facts.specs.Layout.{births_of, rate_of};
 ghost use Rattle.schema_plan.specs.Limits.{AreBirthsInLimits};
 ghost use Rattle.schema_plan.specs.Planned.{births_through};
 
-use crate::counts::count;
 use cohort_sizes::{Cohorts, Rate};
 use out_of_memory::Memory;
+use schema_facts::count;
 use schema_model::{Phase, Table};
 use std::alloc::Global;
 

@@ -3,32 +3,29 @@
 ghost use Rattle.std.specs.Prelude.{◌≡◌, ◌<◌, ◌≤◌, Some, length, slice_get, IfOk, IfSome};
 ghost use Rattle.std.specs.List.{position};
 ghost use Rattle.std.specs.Option.{option_copied};
-ghost use Rattle.schema_plan.specs.Capped.{first_facts};
-ghost use Rattle.schema_plan.specs.ColumnFacts.{field_facts};
-ghost use Rattle.schema_plan.specs.Dictionaries.{dictionary_named, project_of};
-ghost use Rattle.schema_plan.specs.FieldSizes.{size_of};
-ghost use Rattle.schema_plan.specs.Layout.{column_at, layout_of, table_at, table_layout};
+ghost use Rattle.schema_facts.specs.Capped.{first_facts};
+ghost use Rattle.schema_facts.specs.ColumnFacts.{field_facts};
+ghost use Rattle.schema_facts.specs.Dictionaries.{dictionary_named, project_of};
+ghost use Rattle.schema_facts.specs.FieldSizes.{size_of};
+ghost use Rattle.schema_facts.specs.Layout.{column_at, layout_of, table_at, table_layout};
 ghost use Rattle.schema_plan.specs.Limits.{IsInLimits, IsLife, IsTableInLimits, IsUpdatePeriod};
-ghost use Rattle.schema_plan.specs.Lineage.{longest_life, sure_life};
-ghost use Rattle.schema_plan.specs.Names.{same_text};
+ghost use Rattle.schema_facts.specs.Lineage.{longest_life, sure_life};
+ghost use Rattle.schema_facts.specs.Names.{same_text};
 ghost use Rattle.schema_plan.specs.Planned.{table_named};
 ghost use Rattle.schema_plan.specs.Ready.{ready_columns};
 ghost use Rattle.schema_plan.specs.Rules.{IsAccepted};
-ghost use Rattle.schema_plan.specs.TableFacts.{cost, facts_at, max_line, reach};
+ghost use Rattle.schema_facts.specs.TableFacts.{cost, facts_at, max_line, reach};
 
 use crate::births::cohorts_of_tables;
-use crate::counts::count;
-use crate::facts::{TableFacts, delimiter_byte, greatest_line};
-use crate::field_sizes::size_of;
-use crate::layout::{Keys, Span};
-use crate::lineage::span_of;
-use crate::numbers::Numbers;
 use crate::ready::ReadyColumn;
 use crate::ready_columns::ready_tables;
-use crate::word_lists::Dictionaries;
 use cohort_sizes::Cohorts;
 use dictionaries::Dictionary;
 use out_of_memory::Memory;
+use schema_facts::{
+    Dictionaries, Keys, Numbers, Span, TableFacts, count, delimiter_byte, greatest_line, size_of,
+    span_of,
+};
 use schema_model::{Schema, Sequence, Table};
 use std::alloc::Global;
 use std::marker::Model;
@@ -64,7 +61,7 @@ impl Drop for Plan {
 }
 
 impl Model for Plan {
-    ghost use Rattle.schema_plan.specs.Dictionaries.{Project, project_of};
+    ghost use Rattle.schema_facts.specs.Dictionaries.{Project, project_of};
     ghost use Rattle.schema_plan.specs.Planned.{IsPlan};
 
     ghost Value = { Project };

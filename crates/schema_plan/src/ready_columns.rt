@@ -2,18 +2,14 @@
 
 ghost use Rattle.std.specs.Prelude.{◌≡◌, ◌≤◌, ℕ, List, All, IfOk, length, map, sum};
 ghost use Rattle.std.specs.List.{range_with_len};
-ghost use Rattle.schema_plan.specs.Choices.{choices};
-ghost use Rattle.schema_plan.specs.Counts.{count};
-ghost use Rattle.schema_plan.specs.Dictionaries.{Dictionary, project_of};
-ghost use Rattle.schema_plan.specs.Layout.{becomes_null, column_layout, is_drawn_deal, kind_layout, layout_of, leaf_layout, place_of_column, window_layout};
+ghost use Rattle.schema_facts.specs.Choices.{choices};
+ghost use Rattle.schema_facts.specs.Counts.{count};
+ghost use Rattle.schema_facts.specs.Dictionaries.{Dictionary, project_of};
+ghost use Rattle.schema_facts.specs.Layout.{becomes_null, column_layout, is_drawn_deal, kind_layout, layout_of, leaf_layout, place_of_column, window_layout};
 ghost use Rattle.schema_plan.specs.Limits.{CanBeReady, IsAfterRange, IsInLimits, IsLeafInLimits};
 ghost use Rattle.schema_plan.specs.Ready.{ready_column, ready_columns, ready_kind, ready_leaf, ready_reference};
-ghost use Rattle.schema_plan.specs.References.{IsSpread};
+ghost use Rattle.schema_facts.specs.References.{IsSpread};
 
-use crate::counts::count;
-use crate::facts::delimiter_byte;
-use crate::layout::{becomes_null, is_drawn_deal};
-use crate::places::{columns_of, parent_via, place_of_column, place_of_table};
 use crate::ready::{
     ReadyAfter, ReadyColumn, ReadyKind, ReadyLeaf, ReadyList, ReadyLookup, ReadyReference,
     ReadyUnitDate,
@@ -21,9 +17,12 @@ use crate::ready::{
 use crate::ready_leaves::{choices, counts, ready_leaf};
 use crate::ready_parts::ready_parts;
 use crate::ready_words::{Lexicon, ReadyWords};
-use crate::word_lists::Dictionaries;
 use fixed_divisors::FixedDivisor;
 use out_of_memory::Memory;
+use schema_facts::{
+    Dictionaries, becomes_null, columns_of, count, delimiter_byte, is_drawn_deal, parent_via,
+    place_of_column, place_of_table,
+};
 use schema_model::{Column, Deal, Kind, Leaf, OnDelete, Schema, Sequence, Table, Text, Window};
 use std::alloc::Global;
 use weight_tables::Weights;

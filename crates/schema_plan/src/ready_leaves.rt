@@ -4,18 +4,18 @@ ghost use Rattle.std.specs.Prelude.{◌≡◌, ◌≤◌, ◌+◌, ◌-◌, ◌^
 ghost use Rattle.std.specs.Str.{chars};
 ghost use Rattle.row_text.specs.Fields.{escaped_text};
 ghost use Rattle.weight_tables.specs.Harmonic.{harmonic_weights};
-ghost use Rattle.schema_plan.specs.Choices.{choices};
-ghost use Rattle.schema_plan.specs.Counts.{count};
-ghost use Rattle.schema_plan.specs.Layout.{leaf_layout};
+ghost use Rattle.schema_facts.specs.Choices.{choices};
+ghost use Rattle.schema_facts.specs.Counts.{count};
+ghost use Rattle.schema_facts.specs.Layout.{leaf_layout};
 ghost use Rattle.schema_plan.specs.Limits.{IsAlphabet, IsDateRange, IsLeafInLimits, IsLengthRange, IsRange, IsSkew, IsWeighted};
 ghost use Rattle.schema_plan.specs.Ready.{ready_leaf};
 
-use crate::counts::count;
 use crate::ready::ReadyLeaf;
 use crate::ready_words::{Lexicon, ReadyWords};
 use fixed_divisors::FixedDivisor;
 use out_of_memory::Memory;
 use row_text::WrittenTexts;
+use schema_facts::count;
 use schema_model::{Leaf, Text};
 use std::alloc::Global;
 use weight_tables::Weights;

@@ -3,14 +3,13 @@
 ghost use Rattle.std.specs.Prelude.{◌≡◌, IfOk, map};
 ghost use Rattle.row_text.specs.Fields.{escaped_text};
 ghost use Rattle.schema_plan.specs.declared.ready.ReadyPart.TheVariants.{Cited};
-ghost use Rattle.schema_plan.specs.Layout.{part_layout, place_of_column};
+ghost use Rattle.schema_facts.specs.Layout.{part_layout, place_of_column};
 ghost use Rattle.schema_plan.specs.Ready.{ready_part};
 
-use crate::counts::count;
-use crate::places::place_of_column;
 use crate::ready::ReadyPart;
 use out_of_memory::Memory;
 use row_text::WrittenTexts;
+use schema_facts::{count, place_of_column};
 use schema_model::{Column, Part, Sequence, Text};
 use std::alloc::Global;
 

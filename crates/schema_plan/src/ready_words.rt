@@ -2,14 +2,14 @@
 
 ghost use Rattle.std.specs.Prelude.{◌≡◌, IfOk, map};
 ghost use Rattle.row_text.specs.Fields.{escaped_text};
-ghost use Rattle.schema_plan.specs.Dictionaries.{Dictionary as Named};
+ghost use Rattle.schema_facts.specs.Dictionaries.{Dictionary as Named};
 ghost use Rattle.schema_plan.specs.ReadyWords.{written_words};
 
-use crate::word_lists::{Dictionaries, NamedWords};
 use dictionaries::Dictionary;
 use fixed_divisors::FixedDivisor;
 use out_of_memory::Memory;
 use row_text::WrittenTexts;
+use schema_facts::{Dictionaries, NamedWords};
 use schema_model::Text;
 use std::alloc::Global;
 use std::marker::Model;
@@ -127,7 +127,7 @@ pub(crate) struct Lexicon<'a> {
 
 impl<'a> Model for Lexicon<'a> {
     ghost use Rattle.std.specs.Prelude.{◌≡◌, map};
-    ghost use Rattle.schema_plan.specs.Dictionaries.{Dictionary};
+    ghost use Rattle.schema_facts.specs.Dictionaries.{Dictionary};
     ghost use Rattle.schema_plan.specs.ReadyWords.{Spelling, written_words};
 
     ghost Value = { Spelling };
@@ -140,7 +140,7 @@ impl<'a> Model for Lexicon<'a> {
 impl<'a> Lexicon<'a> {
     ghost use Rattle.std.specs.Prelude.{◌≡◌, IfOk};
     ghost use Rattle.dictionaries.specs.WordList.{IsWordList};
-    ghost use Rattle.schema_plan.specs.Dictionaries.{words_named};
+    ghost use Rattle.schema_facts.specs.Dictionaries.{words_named};
     ghost use Rattle.schema_plan.specs.ReadyWords.{written_words};
 
     /// Makes ready all dictionaries with a delimiter. Refuses if memory is wanting.

@@ -3,12 +3,6 @@
 ghost use Rattle.std.specs.Prelude.{◌≡◌};
 ghost use Rattle.schema_plan.specs.Rules.{rule_number};
 
-/// The most tables of a schema, and the most columns of a table.
-pub const MAX_ITEMS: usize = 64;
-
-/// The most bytes to which a part of a template is padded.
-pub const MAX_WIDTH: i64 = 64;
-
 /// A rule of a schema, with its number in messages.
 #[derive(Clone, Copy, Debug, PartialEq, Eq)]
 pub enum Rule {

@@ -1,7 +1,8 @@
 //! The helpers that try the cases of tests. If memory is wanting, the test ends.
 
 use schema_check::{CheckFault, check};
-use schema_plan::{Dictionaries, Plan};
+use schema_facts::Dictionaries;
+use schema_plan::Plan;
 use schema_read::read_schema;
 use std::alloc::Global;
 use std::process::Abort;

@@ -3,8 +3,8 @@
 
 use crate::cases::{Told, fault_of, try_rule, try_text, try_texts, weights};
 use schema_check::{CheckFault, check};
+use schema_facts::Dictionaries;
 use schema_model::{Column, Columns, Kind, Leaf, Phase, Phases, Table, Text};
-use schema_plan::Dictionaries;
 use schema_read::read_schema;
 use std::alloc::Global;
 use std::process::Abort;

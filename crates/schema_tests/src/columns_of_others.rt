@@ -3,7 +3,8 @@
 
 use crate::cases::{Told, plan_of, try_text};
 use crate::plans::{Bounds, assert_bounds};
-use schema_plan::{Dictionaries, Numbers, Plan, ReadyColumn, ReadyKind};
+use schema_facts::{Dictionaries, Numbers};
+use schema_plan::{Plan, ReadyColumn, ReadyKind};
 use std::alloc::Global;
 use std::process::Abort;
 

@@ -1,7 +1,8 @@
 //! What a plan tells of the tables of a schema, worked out by hand.
 
 use crate::cases::{Told, numbered, plan_of, try_text};
-use schema_plan::{Dictionaries, Keys, Lineage, NO_FACTS, Plan, TableFacts, fill_facts};
+use schema_facts::{Dictionaries, Keys, Lineage, NO_FACTS, TableFacts, fill_facts};
+use schema_plan::Plan;
 use schema_read::read_schema;
 use std::alloc::Global;
 use std::process::Abort;

@@ -3,7 +3,7 @@
 use crate::cases::{Told, assert_told, fault_of, joined, numbered};
 use dictionaries::read_dictionary;
 use schema_check::citations;
-use schema_plan::Dictionaries;
+use schema_facts::Dictionaries;
 use schema_read::read_schema;
 use std::alloc::Global;
 use std::process::Abort;

@@ -3,8 +3,8 @@ use Rattle.std.proofs.Common.{◌≡◌, ◌≢◌, ◌<◌, ℕ, ◌&&◌, Bool
 use Rattle.std.specs.List.{list_all}
 use Rattle.std.proofs.lemmas.Bool.{cases_lt}
 use Rattle.std.proofs.lemmas.List.{get_or_past, length-map}
-use Rattle.schema_plan.specs.Dictionaries.{Project}
-use Rattle.schema_plan.specs.Layout.{ColumnLayout, KindLayout, LeafLayout, TableLayout, born_kind, case_kind, changed_kind, chars_leaf, column_at, date_leaf, dict_leaf, fixed_leaf, int_leaf, key_kind, layout_of, leaf_kind, list_kind, lookup_kind, no_table, pick_leaf, reference_kind, skew_leaf, table_at, template_kind, unit_date_kind, after_kind, sum_kind, product_kind, uuid_leaf, words_leaf}
+use Rattle.schema_facts.specs.Dictionaries.{Project}
+use Rattle.schema_facts.specs.Layout.{ColumnLayout, KindLayout, LeafLayout, TableLayout, born_kind, case_kind, changed_kind, chars_leaf, column_at, date_leaf, dict_leaf, fixed_leaf, int_leaf, key_kind, layout_of, leaf_kind, list_kind, lookup_kind, no_table, pick_leaf, reference_kind, skew_leaf, table_at, template_kind, unit_date_kind, after_kind, sum_kind, product_kind, uuid_leaf, words_leaf}
 use Rattle.schema_plan.specs.Limits.{IsInLimits, IsLookupInLimits, IsTableInLimits}
 use Rattle.schema_plan.specs.Ready.{ready_column, ready_columns, ready_kind, ready_leaf}
 use Rattle.schema_plan.specs.declared.ready.ReadyColumn.{ReadyColumn}

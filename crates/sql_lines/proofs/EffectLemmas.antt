@@ -11,11 +11,11 @@ use Rattle.std.proofs.Math.Seq.{take-append-add}
 use Rattle.cohort_sizes.specs.Births.{born_count, first_ordinal}
 use Rattle.cohort_sizes.proofs.CohortLemmas.{born_count-le}
 use Rattle.row_text.specs.Fields.{field_text}
-use Rattle.schema_plan.specs.Dictionaries.{Project}
-use Rattle.schema_plan.specs.Layout.{ColumnLayout, KindLayout, column_at, key_kind, no_table}
+use Rattle.schema_facts.specs.Dictionaries.{Project}
+use Rattle.schema_facts.specs.Layout.{ColumnLayout, KindLayout, column_at, key_kind, no_table}
 use Rattle.schema_plan.specs.Limits.{IsInLimits, IsTableInLimits}
-use Rattle.schema_plan.specs.References.{Reference, reference_of, references_of}
-use Rattle.schema_plan.proofs.Lists.{map-map}
+use Rattle.schema_facts.specs.References.{Reference, reference_of, references_of}
+use Rattle.schema_facts.proofs.Lists.{map-map}
 use Rattle.life_intervals.specs.Generator.{Generator, generator_of, last_unit, table_of}
 use Rattle.life_intervals.specs.Intervals.{changing, is_live, row_at}
 use Rattle.life_intervals.specs.Keys.{key_of}

@@ -10,9 +10,9 @@ use Rattle.schema_check.proofs.FirstBreak.{none_of_rule}
 use Rattle.schema_check.proofs.Kept.{keeps_from_none, none_at}
 use Rattle.schema_plan.specs.declared.rules.Rule.TheVariants.{Columns, TableNames}
 use Rattle.schema_plan.specs.declared.site.Site.TheVariants.{OfColumn, OfTable}
-use Rattle.schema_plan.specs.Dictionaries.{Project}
-use Rattle.schema_plan.specs.Layout.{TableLayout, no_table, table_layout}
-use Rattle.schema_plan.specs.Names.{begins_with_letter, is_name, is_name_byte, same_text}
+use Rattle.schema_facts.specs.Dictionaries.{Project}
+use Rattle.schema_facts.specs.Layout.{TableLayout, no_table, table_layout}
+use Rattle.schema_facts.specs.Names.{begins_with_letter, is_name, is_name_byte, same_text}
 use Rattle.schema_plan.specs.Rules.{IsAccepted, Keeps, broken_rule, column_names, first_broken, rules, table_names}
 use Rattle.schema_plan.specs.Sites.{columns_at}
 use Rattle.update_box.specs.Parts.{name_at}

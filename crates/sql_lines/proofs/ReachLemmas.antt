@@ -3,11 +3,11 @@ use Rattle.std.proofs.Common.{◌≡◌, ◌<◌, ◌≤◌, ℕ, ◌+◌, ◌*�
 use Rattle.std.proofs.lemmas.Nat.{mul-le}
 use Rattle.std.proofs.lemmas.List.Sums.{sum_by-cons, sum_by-le-sum_by, sum_by_more_le}
 use Rattle.std.proofs.lemmas.List.{take_all}
-use Rattle.schema_plan.specs.Dictionaries.{Project}
-use Rattle.schema_plan.specs.FieldSizes.{greatest_by, size_of}
-use Rattle.schema_plan.specs.Layout.{ColumnLayout, Layout, TableLayout, column_at, layout_of, no_column, no_table, table_at}
+use Rattle.schema_facts.specs.Dictionaries.{Project}
+use Rattle.schema_facts.specs.FieldSizes.{greatest_by, size_of}
+use Rattle.schema_facts.specs.Layout.{ColumnLayout, Layout, TableLayout, column_at, layout_of, no_column, no_table, table_at}
 use Rattle.schema_plan.specs.Limits.{IsInLimits}
-use Rattle.schema_plan.specs.TableFacts.{max_line}
+use Rattle.schema_facts.specs.TableFacts.{max_line}
 use Rattle.draw_values.proofs.SizeLemmas.{greatest_by-each}
 use Rattle.life_intervals.proofs.AcceptedLemmas.{place-below}
 use Rattle.sql_lines.specs.Bare.{is_bare_at}

@@ -11,7 +11,7 @@ use Rattle.line_pages.specs.Pages.{Page}
 use Rattle.row_text.specs.Fields.{IsDelimiter}
 use Rattle.cohort_sizes.specs.Births.{born_count}
 use Rattle.cohort_sizes.proofs.CohortLemmas.{born_count-le}
-use Rattle.schema_plan.specs.Layout.{layout_of, no_table}
+use Rattle.schema_facts.specs.Layout.{layout_of, no_table}
 use Rattle.schema_plan.specs.Limits.{IsInLimits, IsTableInLimits}
 use Rattle.schema_plan.specs.Rules.{IsAccepted}
 use Rattle.life_intervals.specs.Generator.{generator_of, last_unit, rows_in_all}

@@ -1,12 +1,12 @@
 -- Which columns have bare literals: those that show numbers.
 use Rattle.std.specs.Prelude.{ℕ, Bool, true, false, List}
 use Rattle.std.specs.List.{list_all}
-use Rattle.schema_plan.specs.Dictionaries.{Project}
+use Rattle.schema_facts.specs.Dictionaries.{Project}
 use Rattle.schema_plan.specs.declared.ready.ReadyKind.{ReadyKind}
 use Rattle.schema_plan.specs.declared.ready.ReadyKind.TheVariants as kind
 use Rattle.schema_plan.specs.declared.ready.ReadyLeaf.{ReadyLeaf}
 use Rattle.schema_plan.specs.declared.ready.ReadyLeaf.TheVariants as leaf
-use Rattle.schema_plan.specs.Layout.{LeafLayout, int_leaf, fixed_leaf, skew_leaf, KindLayout, key_kind, born_kind, changed_kind, leaf_kind, case_kind, reference_kind, lookup_kind, sum_kind, product_kind, TableLayout, column_at, layout_of, table_at}
+use Rattle.schema_facts.specs.Layout.{LeafLayout, int_leaf, fixed_leaf, skew_leaf, KindLayout, key_kind, born_kind, changed_kind, leaf_kind, case_kind, reference_kind, lookup_kind, sum_kind, product_kind, TableLayout, column_at, layout_of, table_at}
 
 -- a value that is drawn for a field alone
 abbrev pub is_bare_leaf : LeafLayout → Bool

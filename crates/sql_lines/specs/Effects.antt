@@ -1,6 +1,6 @@
 -- The statements of a script, and what they make of the rows of a database, which has each under its table and its key.
 use Rattle.std.specs.Prelude.{ℕ, List, [], flat_map, fold, if◌then◌else◌, map, nat_le, Option, Some, None}
-use Rattle.schema_plan.specs.Dictionaries.{Project}
+use Rattle.schema_facts.specs.Dictionaries.{Project}
 use Rattle.life_intervals.specs.Generator.{generator_of}
 use Rattle.life_intervals.specs.Rows.{Row}
 use Rattle.life_intervals.specs.Simulation.{rows_at}

@@ -1,6 +1,6 @@
 -- What the statements of a table's rows have in common, and what they make of a line.
 use Rattle.std.specs.Prelude.{ℕ, ◌==◌, ◌++◌, Bool, if◌then◌else◌, List, [], ◌∷◌, codes, map}
-use Rattle.schema_plan.specs.Dictionaries.{Project}
+use Rattle.schema_facts.specs.Dictionaries.{Project}
 use Rattle.sql_lines.specs.Bare.{is_bare_at}
 use Rattle.sql_lines.specs.Literals.{literal}
 use Rattle.sql_lines.specs.Reading.{field_before, field_behind, field_read}

@@ -1,6 +1,6 @@
 -- What a packer of statements keeps.
 use Rattle.std.specs.Prelude.{◌≡◌, ◌≤◌, ℕ, ◌^◌, [], ⊤}
-use Rattle.schema_plan.specs.Dictionaries.{Project}
+use Rattle.schema_facts.specs.Dictionaries.{Project}
 use Rattle.row_lines.specs.Runs.{run_text}
 use Rattle.update_box.specs.Prepared.{ArePrepared, IsAmong, Prepared}
 use Rattle.sql_lines.specs.Frames.{FrameOf, deletion_frame, insertion_frame, update_frame}

@@ -2,8 +2,8 @@
 use Rattle.std.specs.Prelude.{◌≡◌, ◌<◌, ◌≤◌, ℕ, ◌+◌, ◌-◌, ◌*◌, List, All, length, min, true}
 use Rattle.std.specs.List.{slice_range}
 use Rattle.cohort_sizes.specs.Births.{born_count}
-use Rattle.schema_plan.specs.Dictionaries.{Project}
-use Rattle.schema_plan.specs.Layout.{layout_of}
+use Rattle.schema_facts.specs.Dictionaries.{Project}
+use Rattle.schema_facts.specs.Layout.{layout_of}
 use Rattle.life_intervals.specs.Generator.{generator_of, last_unit, rows_in_all, table_of}
 use Rattle.life_intervals.specs.Intervals.{is_live}
 use Rattle.row_lines.specs.Runs.{living_from}

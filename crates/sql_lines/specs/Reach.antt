@@ -1,7 +1,7 @@
 -- What a statement takes at most, in bytes.
 use Rattle.std.specs.Prelude.{ℕ, ◌+◌, ◌*◌, Bool, true, false, max, sum_by}
-use Rattle.schema_plan.specs.FieldSizes.{greatest_by, size_of}
-use Rattle.schema_plan.specs.Layout.{ColumnLayout, Layout, TableLayout, table_at}
+use Rattle.schema_facts.specs.FieldSizes.{greatest_by, size_of}
+use Rattle.schema_facts.specs.Layout.{ColumnLayout, Layout, TableLayout, table_at}
 use Rattle.sql_lines.specs.Bare.{is_bare}
 
 -- what the literal of a field takes whose size is at most this: a bare one no less than NULL, and between quotes each byte may be a quote

@@ -2,7 +2,7 @@
 use Rattle.std.specs.Prelude.{ℕ, ◌+◌, ◌&&◌, ◌++◌, ◌∷◌, List, [], filter, flat_map, nat_le, nat_lt, Option, reverse}
 use Rattle.std.specs.List.{slice_range}
 use Rattle.cohort_sizes.specs.Births.{first_ordinal}
-use Rattle.schema_plan.specs.Dictionaries.{Project}
+use Rattle.schema_facts.specs.Dictionaries.{Project}
 use Rattle.life_intervals.specs.Generator.{generator_of, table_of}
 use Rattle.life_intervals.specs.Rows.{Row}
 use Rattle.life_intervals.specs.Simulation.{rows_at}

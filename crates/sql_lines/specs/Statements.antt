@@ -1,7 +1,7 @@
 -- The statements of rows, and the texts of tables as statements, each with a line feed behind it.
 use Rattle.std.specs.Prelude.{ℕ, ◌++◌, List, [], codes, decimal, drop, flat_map, if◌then◌else◌, length, nat_le, slice_index_or}
 use Rattle.std.specs.List.{join_by, range_with_len}
-use Rattle.schema_plan.specs.Dictionaries.{Project}
+use Rattle.schema_facts.specs.Dictionaries.{Project}
 use Rattle.schema_plan.specs.Rules.{column_names}
 use Rattle.life_intervals.specs.Generator.{generator_of, last_unit, table_of}
 use Rattle.life_intervals.specs.Intervals.{row_at}

@@ -3,8 +3,8 @@
 ghost use Rattle.std.specs.Prelude.{◌≡◌, ◌<◌, ◌≤◌, ℕ, ◌-◌, ◌*◌, Bool, None, List, Option, codes, false, flat_map, length, take};
 ghost use Rattle.std.specs.List.{range_with_len};
 ghost use Rattle.range_workers.specs.Marks.{texts};
-ghost use Rattle.schema_plan.specs.Dictionaries.{Project};
-ghost use Rattle.schema_plan.specs.Layout.{layout_of};
+ghost use Rattle.schema_facts.specs.Dictionaries.{Project};
+ghost use Rattle.schema_facts.specs.Layout.{layout_of};
 ghost use Rattle.schema_plan.specs.Limits.{IsInLimits};
 ghost use Rattle.life_intervals.specs.Generator.{generator_of, last_unit};
 ghost use Rattle.life_intervals.specs.Rows.{Row};

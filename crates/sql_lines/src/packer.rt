@@ -3,7 +3,7 @@
 ghost use Rattle.std.specs.Prelude.{◌≡◌, ◌<◌, ◌≤◌, ◌+◌, ◌-◌, ◌*◌, ◌++◌, ◌^◌, [], All, IfOk, length, min};
 ghost use Rattle.std.specs.List.{slice_range};
 ghost use Rattle.cohort_sizes.specs.Births.{born_count};
-ghost use Rattle.schema_plan.specs.Layout.{layout_of};
+ghost use Rattle.schema_facts.specs.Layout.{layout_of};
 ghost use Rattle.life_intervals.specs.Generator.{last_unit, rows_in_all, table_of};
 ghost use Rattle.row_lines.specs.Runs.{run_text};
 ghost use Rattle.update_box.specs.Cuts.{package_count};

@@ -1,7 +1,7 @@
 //! The most bytes of a statement.
 
 ghost use Rattle.std.specs.Prelude.{◌≡◌, ◌<◌, ◌≤◌, ◌^◌, length};
-ghost use Rattle.schema_plan.specs.Layout.{layout_of};
+ghost use Rattle.schema_facts.specs.Layout.{layout_of};
 ghost use Rattle.sql_lines.specs.Reach.{literal_size, statement_reach, statement_size};
 
 use crate::bare::is_bare_at;

@@ -1,8 +1,8 @@
 //! Statements of rows, made from the rows' lines.
 
 ghost use Rattle.std.specs.Prelude.{◌≡◌, ◌<◌, ◌≤◌, ℕ, ◌+◌, ◌-◌, ◌*◌, ◌^◌, ◌++◌, All, drop, length, take};
-ghost use Rattle.schema_plan.specs.Layout.{layout_of};
-ghost use Rattle.schema_plan.specs.TableFacts.{max_line};
+ghost use Rattle.schema_facts.specs.Layout.{layout_of};
+ghost use Rattle.schema_facts.specs.TableFacts.{max_line};
 ghost use Rattle.life_intervals.specs.Generator.{last_unit};
 ghost use Rattle.row_lines.specs.RunFields.{HasSizes};
 ghost use Rattle.row_lines.specs.Runs.{RunLinesOf, listed_text};

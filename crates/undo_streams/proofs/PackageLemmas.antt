@@ -7,10 +7,10 @@ use Rattle.std.proofs.lemmas.List.{take_all}
 use Rattle.std.proofs.lemmas.List.Folds.{concat-append}
 use Rattle.cohort_sizes.specs.Births.{Births}
 use Rattle.cohort_sizes.proofs.CohortLemmas.{cohort-within}
-use Rattle.schema_plan.specs.Dictionaries.{Project}
-use Rattle.schema_plan.specs.Layout.{layout_of}
+use Rattle.schema_facts.specs.Dictionaries.{Project}
+use Rattle.schema_facts.specs.Layout.{layout_of}
 use Rattle.schema_plan.specs.Limits.{IsInLimits}
-use Rattle.schema_plan.specs.TableFacts.{reach}
+use Rattle.schema_facts.specs.TableFacts.{reach}
 use Rattle.schema_plan.proofs.PlannedLemmas.{max_line-reach}
 use Rattle.life_intervals.specs.Generator.{last_unit, table_of}
 use Rattle.life_intervals.proofs.CohortParentLemmas.{row_limit}

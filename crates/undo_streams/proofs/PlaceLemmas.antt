@@ -9,9 +9,9 @@ use Rattle.std.proofs.lemmas.List.Sums.{sum_by-append, sum_by-cons}
 use Rattle.std.proofs.lemmas.List.FromFn.{get_or-range_with_len}
 use Rattle.cohort_sizes.specs.Births.{Births, LiesIn, born_count, cohort_size, first_ordinal}
 use Rattle.cohort_sizes.proofs.CohortLemmas.{first_ordinal-le}
-use Rattle.schema_plan.specs.Dictionaries.{Project}
-use Rattle.schema_plan.specs.Layout.{layout_of, table_at}
-use Rattle.schema_plan.specs.Lineage.{death_cost}
+use Rattle.schema_facts.specs.Dictionaries.{Project}
+use Rattle.schema_facts.specs.Layout.{layout_of, table_at}
+use Rattle.schema_facts.specs.Lineage.{death_cost}
 use Rattle.schema_plan.specs.Limits.{IsInLimits}
 use Rattle.life_intervals.specs.CohortLives.{survival_at}
 use Rattle.life_intervals.specs.CohortParents.{asked_for_death}

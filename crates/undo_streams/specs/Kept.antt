@@ -1,6 +1,6 @@
 -- What the code keeps of the packages of an undo text.
 use Rattle.std.specs.Prelude.{◌≡◌, ◌<◌, ◌≤◌, ℕ, ◌-◌, ◌^◌, length}
-use Rattle.schema_plan.specs.Dictionaries.{Project}
+use Rattle.schema_facts.specs.Dictionaries.{Project}
 use Rattle.life_intervals.specs.Generator.{last_unit}
 use Rattle.row_lines.specs.Runs.{RunLinesOf}
 use Rattle.undo_streams.specs.Packages.{AreChanges, Packages, count_of, lines_in, room_of}

@@ -1,9 +1,9 @@
 -- The packages of an undo text: so many lines each, but the last one those that are left.
 use Rattle.std.specs.Prelude.{◌≡◌, ℕ, ◌+◌, ◌-◌, ◌*◌, ◌/◌, List, drop, length, map, min, take}
 use Rattle.std.specs.List.{concat}
-use Rattle.schema_plan.specs.Dictionaries.{Project}
-use Rattle.schema_plan.specs.Layout.{layout_of}
-use Rattle.schema_plan.specs.TableFacts.{max_line}
+use Rattle.schema_facts.specs.Dictionaries.{Project}
+use Rattle.schema_facts.specs.Layout.{layout_of}
+use Rattle.schema_facts.specs.TableFacts.{max_line}
 use Rattle.life_intervals.specs.CohortKeys.{IsCohort}
 use Rattle.life_intervals.specs.Generator.{generator_of}
 use Rattle.life_intervals.specs.Rows.{Row}

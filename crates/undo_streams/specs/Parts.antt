@@ -1,7 +1,7 @@
 -- The three parts of an undo text, by the ordinals of the rows.
 use Rattle.std.specs.Prelude.{ℕ, ◌-◌, List, codes, decimal, flat_map, map, min, zip}
-use Rattle.schema_plan.specs.Dictionaries.{Project}
-use Rattle.schema_plan.specs.Layout.{layout_of}
+use Rattle.schema_facts.specs.Dictionaries.{Project}
+use Rattle.schema_facts.specs.Layout.{layout_of}
 use Rattle.life_intervals.specs.Generator.{generator_of, last_unit}
 use Rattle.row_lines.specs.Lines.{key_line_of}
 use Rattle.row_lines.specs.Runs.{RunLinesOf, line_for}

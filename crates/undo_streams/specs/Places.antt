@@ -2,7 +2,7 @@
 use Rattle.std.specs.Prelude.{◌≡◌, ◌<◌, ℕ, ◌+◌, List, count_by, map}
 use Rattle.std.specs.List.{range_with_len}
 use Rattle.cohort_sizes.specs.Births.{LiesIn}
-use Rattle.schema_plan.specs.Dictionaries.{Project}
+use Rattle.schema_facts.specs.Dictionaries.{Project}
 use Rattle.life_intervals.specs.Generator.{generator_of, table_of}
 use Rattle.life_intervals.specs.Intervals.{is_live}
 use Rattle.undo_streams.specs.UndoText.{place_of}

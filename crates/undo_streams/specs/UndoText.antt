@@ -1,7 +1,7 @@
 -- The undo text of a table at a unit: the lines that take its text at the unit back to that at the unit before.
 use Rattle.std.specs.Prelude.{ℕ, zero, suc, ◌-◌, ◌==◌, List, [], ◌∷◌, ◌++◌, codes, decimal, filter, map}
 use Rattle.std.specs.List.{concat, position_or_len}
-use Rattle.schema_plan.specs.Dictionaries.{Project}
+use Rattle.schema_facts.specs.Dictionaries.{Project}
 use Rattle.life_intervals.specs.Generator.{Generator, generator_of, last_unit}
 use Rattle.life_intervals.specs.Rows.{Row}
 use Rattle.life_intervals.specs.Simulation.{holds_row, rows_at}

@@ -2,9 +2,9 @@
 
 ghost use Rattle.std.specs.Prelude.{◌≡◌, ◌+◌, ◌*◌, ◌<◌, ◌≤◌, ◌^◌, [], codes, flat_map, length};
 ghost use Rattle.std.specs.List.{range_with_len};
-ghost use Rattle.schema_plan.specs.Layout.{layout_of};
+ghost use Rattle.schema_facts.specs.Layout.{layout_of};
 ghost use Rattle.schema_plan.specs.Limits.{IsInLimits};
-ghost use Rattle.schema_plan.specs.TableFacts.{reach};
+ghost use Rattle.schema_facts.specs.TableFacts.{reach};
 ghost use Rattle.life_intervals.specs.Generator.{last_unit};
 ghost use Rattle.row_lines.specs.Worked.{owned};
 ghost use Rattle.undo_streams.specs.Packages.{Packages, count_of, room_of, text_numbered};

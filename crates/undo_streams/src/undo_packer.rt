@@ -4,8 +4,8 @@ ghost use Rattle.std.specs.Prelude.{◌≡◌, ◌<◌, ◌≤◌, ◌+◌, ◌-
 ghost use Rattle.std.specs.List.{concat, range_with_len};
 ghost use Rattle.line_pages.specs.Pieces.{piece_text};
 ghost use Rattle.cohort_sizes.specs.Births.{born_count};
-ghost use Rattle.schema_plan.specs.Layout.{layout_of};
-ghost use Rattle.schema_plan.specs.TableFacts.{max_line};
+ghost use Rattle.schema_facts.specs.Layout.{layout_of};
+ghost use Rattle.schema_facts.specs.TableFacts.{max_line};
 ghost use Rattle.life_intervals.specs.Generator.{generator_of, last_unit, rows_in_all, table_of};
 ghost use Rattle.life_intervals.specs.Intervals.{is_live};
 ghost use Rattle.row_lines.specs.Runs.{line_for};

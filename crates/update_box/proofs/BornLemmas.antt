@@ -5,7 +5,7 @@ use Rattle.std.proofs.lemmas.Bool.{cases_lt}
 use Rattle.std.proofs.lemmas.List.Elements.{filter-append}
 use Rattle.cohort_sizes.specs.Births.{Births, birth, born_count, cohort_size, first_ordinal}
 use Rattle.cohort_sizes.proofs.CohortLemmas.{birth-first_ordinal, born_count-next, first_ordinal-le}
-use Rattle.schema_plan.specs.Lineage.{one_if}
+use Rattle.schema_facts.specs.Lineage.{one_if}
 use Rattle.life_intervals.proofs.Ranges.{range_with_len-add}
 use Rattle.life_intervals.specs.FoundAt.{AreAppended}
 use Rattle.life_intervals.proofs.AppendLemmas.{AreAppended-more, AreAppended-none}

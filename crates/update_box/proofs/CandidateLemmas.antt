@@ -8,8 +8,8 @@ use Rattle.std.proofs.lemmas.List.Folds.{list_any-append}
 use Rattle.std.proofs.lemmas.List.Kept.{IsStrictlyIncreasing-filter}
 use Rattle.std.proofs.lemmas.List.Sorted.{All-permutation, length_permutation, list_any-IsPermutation}
 use Rattle.cohort_sizes.specs.Births.{cohort_size, first_ordinal}
-use Rattle.schema_plan.specs.Dictionaries.{Project}
-use Rattle.schema_plan.specs.References.{Reference}
+use Rattle.schema_facts.specs.Dictionaries.{Project}
+use Rattle.schema_facts.specs.References.{Reference}
 use Rattle.life_intervals.specs.Generator.{generator_of, table_of}
 use Rattle.update_box.specs.Candidates.{born_before, is_due_at, is_young, loses_at, losing, losing_by}
 use Rattle.update_box.specs.Ordinals.{is_one_of}

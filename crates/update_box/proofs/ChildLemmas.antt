@@ -9,11 +9,11 @@ use Rattle.std.proofs.lemmas.List.Sorted.{IsPermutation-append, IsPermutation-re
 use Rattle.cohort_sizes.specs.Births.{Births, birth, born_count, cohort_size, first_ordinal}
 use Rattle.cohort_sizes.proofs.CohortLemmas.{birth-later, born_count-next, first_ordinal-le}
 use Rattle.schema_plan.specs.declared.ready.ReadyReference.{ReadyReference}
-use Rattle.schema_plan.specs.Dictionaries.{Project}
-use Rattle.schema_plan.specs.Layout.{table_at}
+use Rattle.schema_facts.specs.Dictionaries.{Project}
+use Rattle.schema_facts.specs.Layout.{table_at}
 use Rattle.schema_plan.specs.Limits.{IsInLimits}
-use Rattle.schema_plan.specs.Lineage.{one_if, sure_life}
-use Rattle.schema_plan.specs.References.{Reference, first_in_window, references_of}
+use Rattle.schema_facts.specs.Lineage.{one_if, sure_life}
+use Rattle.schema_facts.specs.References.{Reference, first_in_window, references_of}
 use Rattle.life_intervals.specs.CohortParents.{IsReferenceOf, reference_by}
 use Rattle.life_intervals.specs.Generator.{Generator, generator_of, last_unit, table_of}
 use Rattle.life_intervals.specs.Intervals.{Known, death, dying, is_at, known_tables, parent_by, parent_of}

@@ -4,11 +4,11 @@ use Rattle.std.specs.List.{range_with_len}
 use Rattle.std.proofs.lemmas.List.Filters.{sum_by-filter_both}
 use Rattle.std.proofs.lemmas.List.Sums.{length-filter, sum_by-cons}
 use Rattle.schema_model.specs.declared.column.OnDelete.TheVariants.{Cascade, Null}
-use Rattle.schema_plan.specs.Dictionaries.{Project}
-use Rattle.schema_plan.specs.Layout.{layout_of}
-use Rattle.schema_plan.specs.Lineage.{death_cost}
-use Rattle.schema_plan.specs.References.{Reference, references_of}
-use Rattle.schema_plan.specs.TableFacts.{cost, line_cost}
+use Rattle.schema_facts.specs.Dictionaries.{Project}
+use Rattle.schema_facts.specs.Layout.{layout_of}
+use Rattle.schema_facts.specs.Lineage.{death_cost}
+use Rattle.schema_facts.specs.References.{Reference, references_of}
+use Rattle.schema_facts.specs.TableFacts.{cost, line_cost}
 use Rattle.life_intervals.specs.Generator.{table_of}
 use Rattle.update_box.specs.Candidates.{born_before, candidates, ends_at, is_due_at, looked_at_to_delete, looked_at_to_update, loses_at, losing, losing_by, pairs, pairs_to_delete, pairs_to_update, references_on}
 use Rattle.update_box.proofs.RangeLemmas.{sum_by-range_le, sum_by-range_more}

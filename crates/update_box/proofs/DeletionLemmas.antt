@@ -8,14 +8,14 @@ use Rattle.std.proofs.Math.Bool.{or-false, or-true}
 use Rattle.std.proofs.lemmas.Bool.{cases_Bool, cases_lt, false≢true, le-ltb, lt-ltb}
 use Rattle.std.proofs.lemmas.List.{length-map}
 use Rattle.cohort_sizes.specs.Births.{Births, birth, first_ordinal, index_at}
-use Rattle.schema_plan.specs.declared.layout.Span.{Span}
+use Rattle.schema_facts.specs.declared.layout.Span.{Span}
 use Rattle.schema_plan.specs.declared.ready.ReadyColumn.{ReadyColumn}
-use Rattle.schema_plan.specs.Layout.{ColumnLayout, KindLayout, layout_of, reference_kind}
+use Rattle.schema_facts.specs.Layout.{ColumnLayout, KindLayout, layout_of, reference_kind}
 use Rattle.schema_plan.specs.Ready.{ready_column, ready_columns}
-use Rattle.schema_plan.specs.Dictionaries.{Project}
+use Rattle.schema_facts.specs.Dictionaries.{Project}
 use Rattle.schema_plan.specs.Limits.{IsInLimits}
-use Rattle.schema_plan.specs.Lineage.{lesser_life, one_if}
-use Rattle.schema_plan.specs.References.{Reference, cascades_of}
+use Rattle.schema_facts.specs.Lineage.{lesser_life, one_if}
+use Rattle.schema_facts.specs.References.{Reference, cascades_of}
 use Rattle.life_intervals.proofs.CascadeLemmas.{is_cascading}
 use Rattle.life_intervals.proofs.ReferenceLemmas.{references_in}
 use Rattle.life_intervals.specs.Generator.{generator_of, last_unit, table_of}

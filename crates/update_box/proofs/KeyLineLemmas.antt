@@ -13,10 +13,10 @@ use Rattle.std.proofs.lemmas.Slice.Eq.{bytes_eq-Decides}
 use Rattle.row_text.specs.Fields.{field_text}
 use Rattle.row_text.proofs.DigitLemmas.{escaped_text-decimal}
 use Rattle.cohort_sizes.specs.Births.{birth, born_count}
-use Rattle.schema_plan.specs.Dictionaries.{Project}
-use Rattle.schema_plan.specs.Layout.{layout_of, no_table, table_at}
+use Rattle.schema_facts.specs.Dictionaries.{Project}
+use Rattle.schema_facts.specs.Layout.{layout_of, no_table, table_at}
 use Rattle.schema_plan.specs.Limits.{IsInLimits, IsTableInLimits}
-use Rattle.schema_plan.specs.References.{IsReferenceInLimits, Reference, cascades_of, reference_at, references_of}
+use Rattle.schema_facts.specs.References.{IsReferenceInLimits, Reference, cascades_of, reference_at, references_of}
 use Rattle.life_intervals.specs.Generator.{Generator, generator_of, last_unit, rows_in_all, table_of}
 use Rattle.life_intervals.specs.Intervals.{held_parent, is_after, is_live, living, loss_of, parent_of, row_at}
 use Rattle.life_intervals.specs.Keys.{key_of}

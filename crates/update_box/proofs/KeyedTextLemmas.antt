@@ -8,10 +8,10 @@ use Rattle.row_text.specs.Fields.{escaped_text, field_text}
 use Rattle.row_text.specs.Lines.{line_text}
 use Rattle.row_text.proofs.DigitLemmas.{escaped_text-decimal}
 use Rattle.cohort_sizes.specs.Births.{Births, born_count, cohort_size, first_ordinal}
-use Rattle.schema_plan.specs.Dictionaries.{Project}
-use Rattle.schema_plan.specs.Layout.{no_table}
+use Rattle.schema_facts.specs.Dictionaries.{Project}
+use Rattle.schema_facts.specs.Layout.{no_table}
 use Rattle.schema_plan.specs.Limits.{IsInLimits, IsTableInLimits}
-use Rattle.schema_plan.proofs.Lists.{map-map}
+use Rattle.schema_facts.proofs.Lists.{map-map}
 use Rattle.life_intervals.specs.Generator.{Generator, generator_of, last_unit, table_of}
 use Rattle.life_intervals.specs.Intervals.{is_live, row_at}
 use Rattle.life_intervals.specs.Keys.{key_of}

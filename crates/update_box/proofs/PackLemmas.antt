@@ -10,7 +10,7 @@ use Rattle.std.proofs.lemmas.List.Sorted.{IsNonDecreasingBy-short}
 use Rattle.line_pages.specs.Pages.{Page}
 use Rattle.range_workers.specs.Marks.{AreMarksOf, Mark, due_files}
 use Rattle.cohort_sizes.specs.Births.{born_count}
-use Rattle.schema_plan.specs.Dictionaries.{Project}
+use Rattle.schema_facts.specs.Dictionaries.{Project}
 use Rattle.schema_plan.specs.Limits.{IsInLimits}
 use Rattle.life_intervals.specs.Generator.{last_unit, table_of}
 use Rattle.row_lines.specs.Runs.{RunLinesOf, run_text}

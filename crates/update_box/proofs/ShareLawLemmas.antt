@@ -4,11 +4,11 @@ use Rattle.std.specs.List.{flat_map, range_with_len}
 use Rattle.std.proofs.lemmas.List.{get_or-map, length-map}
 use Rattle.std.proofs.lemmas.List.Sums.{get_or-le-sum_by}
 use Rattle.std.proofs.Math.Nat.{mul-div-le, mul-le-mul_left, mul-le-mul_right, mul-div_left}
-use Rattle.schema_plan.specs.Dictionaries.{Project}
-use Rattle.schema_plan.specs.FieldSizes.{field_sizes, size_of}
-use Rattle.schema_plan.specs.Layout.{ColumnLayout, KindLayout, Layout, TableLayout, column_at, key_kind, layout_of, no_column, no_table, table_at}
+use Rattle.schema_facts.specs.Dictionaries.{Project}
+use Rattle.schema_facts.specs.FieldSizes.{field_sizes, size_of}
+use Rattle.schema_facts.specs.Layout.{ColumnLayout, KindLayout, Layout, TableLayout, column_at, key_kind, layout_of, no_column, no_table, table_at}
 use Rattle.schema_plan.specs.Limits.{IsInLimits, IsTableInLimits}
-use Rattle.schema_plan.specs.TableFacts.{max_line, reach}
+use Rattle.schema_facts.specs.TableFacts.{max_line, reach}
 use Rattle.schema_plan.proofs.PlannedLemmas.{max_line-reach}
 use Rattle.life_intervals.specs.Generator.{last_unit}
 use Rattle.life_intervals.proofs.AcceptedLemmas.{place-below}

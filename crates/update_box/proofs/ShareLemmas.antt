@@ -6,7 +6,7 @@ use Rattle.std.proofs.lemmas.List.Concat.{flat_map-append}
 use Rattle.std.proofs.lemmas.List.Elements.{All-head, All-push, All-tail, All-take}
 use Rattle.std.proofs.lemmas.List.Sums.{sum_by-cons, sum_by_more, sum_by_more_le}
 use Rattle.range_workers.specs.Marks.{Mark}
-use Rattle.schema_plan.specs.Dictionaries.{Project}
+use Rattle.schema_facts.specs.Dictionaries.{Project}
 use Rattle.life_intervals.proofs.Ranges.{range_with_len-add}
 use Rattle.update_box.specs.Cuts.{greatest}
 use Rattle.update_box.specs.Kept.{HasPackages, kept_share, packages_kept}

@@ -1,6 +1,6 @@
 -- What is made ready for the lines of tables, one after the other.
 use Rattle.std.proofs.Common.{◌<◌, ℕ, ◌+◌, List, get_or, arith}
-use Rattle.schema_plan.specs.Dictionaries.{Project}
+use Rattle.schema_facts.specs.Dictionaries.{Project}
 use Rattle.row_lines.specs.TableLines.{AreTableLines, TableLinesOf}
 
 -- the lines of the tables from a place on, as many as `count`

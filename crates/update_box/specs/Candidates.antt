@@ -5,15 +5,15 @@ use Rattle.std.specs.Option.{option_map}
 use Rattle.cohort_sizes.specs.Births.{birth, born_count, cohort_size, first_ordinal}
 use Rattle.schema_model.specs.declared.column.OnDelete.{OnDelete}
 use Rattle.schema_model.specs.declared.column.OnDelete.TheVariants.{Cascade, Null}
-use Rattle.schema_plan.specs.Dictionaries.{Project}
-use Rattle.schema_plan.specs.Layout.{TableLayout, layout_of}
-use Rattle.schema_plan.specs.Lineage.{longest_life, one_if}
+use Rattle.schema_facts.specs.Dictionaries.{Project}
+use Rattle.schema_facts.specs.Layout.{TableLayout, layout_of}
+use Rattle.schema_facts.specs.Lineage.{longest_life, one_if}
 use Rattle.schema_plan.specs.declared.ready.ReadyColumn.{ReadyColumn}
 use Rattle.schema_plan.specs.declared.ready.ReadyKind.{ReadyKind}
 use Rattle.schema_plan.specs.declared.ready.ReadyKind.TheVariants as kind
 use Rattle.schema_plan.specs.declared.ready.ReadyReference.{ReadyReference}
-use Rattle.schema_plan.specs.References.{Reference, cascades_of, first_in_window, references_of}
-use Rattle.schema_plan.specs.TableFacts.{cost}
+use Rattle.schema_facts.specs.References.{Reference, cascades_of, first_in_window, references_of}
+use Rattle.schema_facts.specs.TableFacts.{cost}
 use Rattle.life_intervals.specs.Children.{children_of_each}
 use Rattle.life_intervals.specs.Generator.{generator_of, table_of}
 use Rattle.life_intervals.specs.Intervals.{death, dying, is_after, is_at, is_live, own_death, parent_of}

@@ -1,6 +1,6 @@
 -- What becomes of a row at a unit.
 use Rattle.std.specs.Prelude.{ℕ, Bool}
-use Rattle.schema_plan.specs.Dictionaries.{Project}
+use Rattle.schema_facts.specs.Dictionaries.{Project}
 use Rattle.update_box.specs.declared.fates.Fate.{Fate}
 use Rattle.update_box.specs.declared.fates.Fate.TheVariants.{Dies, Lives}
 use Rattle.update_box.specs.Candidates.{dies_at, lives_at}

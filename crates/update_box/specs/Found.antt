@@ -1,8 +1,8 @@
 -- What is found of the tables before one, and of which tables it is needed.
 use Rattle.std.specs.Prelude.{◌≡◌, ◌<◌, ℕ, Bool, true, false, ◌==◌, ◌⊎◌, if◌then◌else◌, All, List, length, Option, slice_index_or}
 use Rattle.std.specs.List.{list_any}
-use Rattle.schema_plan.specs.Dictionaries.{Project}
-use Rattle.schema_plan.specs.References.{references_of}
+use Rattle.schema_facts.specs.Dictionaries.{Project}
+use Rattle.schema_facts.specs.References.{references_of}
 use Rattle.life_intervals.specs.Generator.{generator_of, table_of}
 use Rattle.life_intervals.specs.Intervals.{dying}
 use Rattle.update_box.specs.declared.table_rows.TableRows.{TableRows}

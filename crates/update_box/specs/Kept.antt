@@ -1,7 +1,7 @@
 -- The shares of a job, as the code keeps them.
 use Rattle.std.specs.Prelude.{◌≡◌, ◌<◌, ◌≤◌, ℕ, ◌+◌, ◌*◌, ◌^◌, List, [], All, length, map, min, slice_index_or, take}
 use Rattle.std.specs.List.{sum_by}
-use Rattle.schema_plan.specs.Dictionaries.{Project}
+use Rattle.schema_facts.specs.Dictionaries.{Project}
 use Rattle.life_intervals.specs.Generator.{last_unit}
 use Rattle.row_lines.specs.Runs.{RunLinesOf, run_text}
 use Rattle.update_box.specs.Packages.{Packages, Share, count_of, packages_in, room_of}

@@ -3,9 +3,9 @@ use Rattle.std.specs.Prelude.{◌<◌, ◌≤◌, ℕ, ◌+◌, ◌-◌, ◌*◌
 use Rattle.std.specs.List.{range_with_len, sum_by}
 use Rattle.pd_outside.specs.Files.{File}
 use Rattle.range_workers.specs.Marks.{Mark}
-use Rattle.schema_plan.specs.Dictionaries.{Project}
-use Rattle.schema_plan.specs.Layout.{layout_of}
-use Rattle.schema_plan.specs.TableFacts.{max_line}
+use Rattle.schema_facts.specs.Dictionaries.{Project}
+use Rattle.schema_facts.specs.Layout.{layout_of}
+use Rattle.schema_facts.specs.TableFacts.{max_line}
 use Rattle.life_intervals.specs.Generator.{last_unit}
 use Rattle.row_lines.specs.declared.run_keys.TheConstants.{KEY_LINE}
 use Rattle.update_box.specs.Cuts.{cut_at, greatest, package_count, text_in}

@@ -1,7 +1,7 @@
 -- What is made ready for the lines of a job's tables.
 use Rattle.std.specs.Prelude.{◌≡◌, ◌<◌, ◌≤◌, ℕ, ◌+◌, ◌^◌, List, Option, length, slice_index_or}
 use Rattle.std.specs.List.{range_with_len}
-use Rattle.schema_plan.specs.Dictionaries.{Project}
+use Rattle.schema_facts.specs.Dictionaries.{Project}
 use Rattle.life_intervals.specs.JobOrders.{AreOrdersOf, entries_of}
 use Rattle.life_intervals.specs.declared.kept.TableOrders.{TableOrders}
 use Rattle.row_lines.specs.TableLines.{AreTableLines, TableLinesOf}

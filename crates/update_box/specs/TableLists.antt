@@ -1,7 +1,7 @@
 -- The lists of a table, as the code keeps them.
 use Rattle.std.specs.Prelude.{◌≡◌, ◌<◌, ◌==◌, ℕ, Bool, true, [], Option, Some, None, if◌then◌else◌, length, map, slice_index_or}
 use Rattle.std.specs.List.{range_with_len}
-use Rattle.schema_plan.specs.Dictionaries.{Project}
+use Rattle.schema_facts.specs.Dictionaries.{Project}
 use Rattle.update_box.specs.declared.table_rows.TableRows.{TableRows}
 use Rattle.update_box.specs.UnitLists.{TableLists, UnitLists, table_lists}
 

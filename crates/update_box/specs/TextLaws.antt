@@ -1,7 +1,7 @@
 -- What the laws of the tables' texts speak of.
 use Rattle.std.specs.Prelude.{ℕ, ℤ, List, [], ◌∷◌, count_by, slice_index_or}
 use Rattle.std.specs.Str.{bytes_eq}
-use Rattle.schema_plan.specs.Dictionaries.{Project}
+use Rattle.schema_facts.specs.Dictionaries.{Project}
 use Rattle.life_intervals.specs.Generator.{Generator}
 use Rattle.life_intervals.specs.Rows.{Row}
 use Rattle.life_intervals.specs.Simulation.{rows_at}

@@ -3,7 +3,7 @@
 ghost use Rattle.std.specs.Prelude.{◌≡◌, ℕ, ◌+◌, ◌<◌, ◌≤◌, All, OnOk, false, filter, length, nat_lt, true};
 ghost use Rattle.std.specs.List.Sorted.{IsNonDecreasing, IsPartitionPoint, IsStrictlyIncreasing};
 ghost use Rattle.cohort_sizes.specs.Births.{born_count};
-ghost use Rattle.schema_plan.specs.References.{first_in_window, references_of};
+ghost use Rattle.schema_facts.specs.References.{first_in_window, references_of};
 ghost use Rattle.life_intervals.specs.CohortParents.{IsReferenceOf, reference_by};
 ghost use Rattle.life_intervals.specs.Generator.{generator_of, last_unit, table_of};
 ghost use Rattle.life_intervals.specs.Intervals.{dying};

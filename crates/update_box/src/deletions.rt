@@ -1,9 +1,9 @@
 //! The rows of a table that a unit deletes.
 
 ghost use Rattle.std.specs.Prelude.{◌≡◌, ◌+◌, ◌*◌, ◌<◌, ◌≤◌, All, IfOk, OnOk, count_by, length, nat_lt};
-ghost use Rattle.schema_plan.specs.Layout.{layout_of};
-ghost use Rattle.schema_plan.specs.Lineage.{death_cost};
-ghost use Rattle.schema_plan.specs.References.{references_of};
+ghost use Rattle.schema_facts.specs.Layout.{layout_of};
+ghost use Rattle.schema_facts.specs.Lineage.{death_cost};
+ghost use Rattle.schema_facts.specs.References.{references_of};
 ghost use Rattle.life_intervals.specs.Generator.{generator_of, last_unit, table_of};
 ghost use Rattle.life_intervals.specs.Intervals.{dying};
 ghost use Rattle.update_box.specs.Candidates.{ending, endings, is_cascade, looked_at_to_delete, pairs_to_delete};

@@ -6,11 +6,11 @@
 ghost use Rattle.std.specs.Prelude.{◌≡◌, ℕ, ℤ, ◌+◌, ◌-◌, ◌*◌, ◌<◌, ◌≤◌, ◌==◌, ◌&&◌, [], ◌∷◌, All, IfSome, IsSome, MatchOption, Some, codes, decimal, false, filter, flat_map, if◌then◌else◌, is_some, length, not, slice_index_or, true};
 ghost use Rattle.std.specs.List.{range_with_len};
 ghost use Rattle.cohort_sizes.specs.Births.{first_ordinal};
-ghost use Rattle.schema_plan.specs.Dictionaries.{Project};
-ghost use Rattle.schema_plan.specs.Layout.{layout_of};
+ghost use Rattle.schema_facts.specs.Dictionaries.{Project};
+ghost use Rattle.schema_facts.specs.Layout.{layout_of};
 ghost use Rattle.schema_plan.specs.Limits.{IsInLimits};
-ghost use Rattle.schema_plan.specs.References.{Reference, cascades_of, reference_at, references_of};
-ghost use Rattle.schema_plan.specs.TableFacts.{reach};
+ghost use Rattle.schema_facts.specs.References.{Reference, cascades_of, reference_at, references_of};
+ghost use Rattle.schema_facts.specs.TableFacts.{reach};
 ghost use Rattle.life_intervals.specs.Generator.{generator_of, last_unit, rows_in_all, table_of};
 ghost use Rattle.life_intervals.specs.Intervals.{change_unit, held_parent, is_live, parent_of};
 ghost use Rattle.life_intervals.specs.Keys.{key_of};

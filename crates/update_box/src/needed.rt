@@ -1,7 +1,7 @@
 //! The tables in which a unit's deletions are searched for.
 
 ghost use Rattle.std.specs.Prelude.{◌≡◌, ℕ, ◌<◌, ◌≤◌, ◌⊎◌, All, IfOk, Some, length, true};
-ghost use Rattle.schema_plan.specs.References.{references_of};
+ghost use Rattle.schema_facts.specs.References.{references_of};
 ghost use Rattle.life_intervals.specs.Generator.{table_of};
 ghost use Rattle.update_box.specs.Found.{AreNeeded, is_needed, refers_to};
 

@@ -1,9 +1,9 @@
 //! The rows of one table that a unit changes.
 
 ghost use Rattle.std.specs.Prelude.{◌≡◌, ◌+◌, ◌*◌, ◌<◌, ◌≤◌, All, IfOk, length};
-ghost use Rattle.schema_plan.specs.Layout.{layout_of};
-ghost use Rattle.schema_plan.specs.References.{references_of};
-ghost use Rattle.schema_plan.specs.TableFacts.{cost};
+ghost use Rattle.schema_facts.specs.Layout.{layout_of};
+ghost use Rattle.schema_facts.specs.References.{references_of};
+ghost use Rattle.schema_facts.specs.TableFacts.{cost};
 ghost use Rattle.life_intervals.specs.Generator.{generator_of, last_unit, table_of};
 ghost use Rattle.update_box.specs.Candidates.{candidates};
 ghost use Rattle.update_box.specs.Found.{HasDying, deletions_alone};

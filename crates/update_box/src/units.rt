@@ -2,9 +2,9 @@
 
 ghost use Rattle.std.specs.Prelude.{◌≡◌, ◌+◌, ◌*◌, ◌<◌, ◌≤◌, All, IfOk, length, map, slice_index_or, true, ℕ};
 ghost use Rattle.std.specs.List.{range_with_len};
-ghost use Rattle.schema_plan.specs.Layout.{layout_of};
-ghost use Rattle.schema_plan.specs.References.{references_of};
-ghost use Rattle.schema_plan.specs.TableFacts.{cost};
+ghost use Rattle.schema_facts.specs.Layout.{layout_of};
+ghost use Rattle.schema_facts.specs.References.{references_of};
+ghost use Rattle.schema_facts.specs.TableFacts.{cost};
 ghost use Rattle.life_intervals.specs.Generator.{last_unit, table_of};
 ghost use Rattle.update_box.specs.Candidates.{candidates, cost_of_unit};
 ghost use Rattle.update_box.specs.Found.{AreNeeded, HasDying, is_something, kept_if_chosen, lists_as_needed, lists_sought, sought_of};

@@ -1,9 +1,9 @@
 //! The rows of a table that a unit updates.
 
 ghost use Rattle.std.specs.Prelude.{◌≡◌, ◌+◌, ◌*◌, ◌<◌, ◌≤◌, All, IfOk, OnOk, is_none, length};
-ghost use Rattle.schema_plan.specs.Layout.{layout_of};
-ghost use Rattle.schema_plan.specs.Lineage.{death_cost, sure_life};
-ghost use Rattle.schema_plan.specs.References.{references_of};
+ghost use Rattle.schema_facts.specs.Layout.{layout_of};
+ghost use Rattle.schema_facts.specs.Lineage.{death_cost, sure_life};
+ghost use Rattle.schema_facts.specs.References.{references_of};
 ghost use Rattle.life_intervals.specs.Generator.{generator_of, last_unit, table_of};
 ghost use Rattle.life_intervals.specs.Intervals.{changing};
 ghost use Rattle.update_box.specs.Candidates.{due, is_young, looked_at_to_update, pairs_to_update};

@@ -2,10 +2,10 @@
 use Rattle.std.specs.Prelude.{ℕ, ◌++◌, List, length, flat_map, Option, Some, None, Result, Ok, codes, decimal}
 use Rattle.std.specs.List.{range_with_len}
 use Rattle.pd_outside.specs.Files.{File}
-use Rattle.schema_plan.specs.Dictionaries.{Project}
-use Rattle.schema_plan.specs.Layout.{layout_of}
-use Rattle.schema_plan.specs.Lineage.{sure_life}
-use Rattle.schema_plan.specs.TableFacts.{cost, max_line}
+use Rattle.schema_facts.specs.Dictionaries.{Project}
+use Rattle.schema_facts.specs.Layout.{layout_of}
+use Rattle.schema_facts.specs.Lineage.{sure_life}
+use Rattle.schema_facts.specs.TableFacts.{cost, max_line}
 use Rattle.life_intervals.specs.Generator.{rows_in_all}
 use Rattle.refusals.specs.declared.refusal.JobFault.{JobFault}
 use Rattle.update_box.specs.Parts.{name_at}

@@ -6,13 +6,13 @@ use Rattle.refusals.specs.declared.refusal.JobFault.{JobFault}
 use Rattle.refusals.specs.declared.refusal.JobFault.TheVariants as job
 use Rattle.request_words.specs.declared.usage.OptionName.TheVariants as option
 use Rattle.request_words.specs.declared.usage.Request.{Request}
-use Rattle.schema_plan.specs.Dictionaries.{Project}
+use Rattle.schema_facts.specs.Dictionaries.{Project}
 use Rattle.life_intervals.specs.Generator.{last_unit}
 use Rattle.update_box.specs.Parts.{ending_of}
 use Rattle.update_box.specs.declared.parts.Content.{Content}
 use Rattle.detail_plan.specs.Kept.{Kept}
 use Rattle.detail_plan.specs.declared.detail.Detail.{Detail}
-use Rattle.detail_rows.specs.Lines.{detail_deleted_text, detail_inserted_text, detail_text, detail_updated_text}
+use Rattle.detail_lines.specs.Lines.{detail_deleted_text, detail_inserted_text, detail_text, detail_updated_text}
 use Rattle.pdgf_run.specs.Details.{detail_in}
 use Rattle.pdgf_run.specs.DueFiles.{contents_of, default_package, most_page_bytes, page_bytes, text_files}
 use Rattle.pdgf_run.specs.Formats.{made_files, named_files}

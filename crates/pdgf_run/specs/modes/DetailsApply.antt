@@ -9,13 +9,13 @@ use Rattle.refusals.specs.declared.refusal.JobFault.{JobFault}
 use Rattle.refusals.specs.declared.refusal.JobFault.TheVariants as job
 use Rattle.request_words.specs.declared.usage.OptionName.TheVariants as option
 use Rattle.request_words.specs.declared.usage.Request.{Request}
-use Rattle.schema_plan.specs.Dictionaries.{Project}
-use Rattle.schema_plan.specs.Layout.{layout_of}
+use Rattle.schema_facts.specs.Dictionaries.{Project}
+use Rattle.schema_facts.specs.Layout.{layout_of}
 use Rattle.stream_apply.specs.declared.key_fields.KeyFields.TheVariants.{Two}
 use Rattle.detail_plan.specs.Kept.{Kept}
 use Rattle.detail_plan.specs.declared.detail.Detail.{Detail}
 use Rattle.detail_rows.specs.Applying.{detail_streams}
-use Rattle.detail_rows.specs.Lines.{detail_text}
+use Rattle.detail_lines.specs.Lines.{detail_text}
 use Rattle.pdgf_run.specs.Details.{declaration_names, detail_in, detail_with_words, possible_declaration}
 use Rattle.pdgf_run.specs.Replay.{AreDueFor, IsReplayOf, input_limit, input_paths, paths_of, possible_of}
 use Rattle.pdgf_run.specs.declared.replay.Replay.{Replay}

@@ -8,7 +8,7 @@ use Rattle.refusals.specs.declared.refusal.JobFault.{JobFault}
 use Rattle.refusals.specs.declared.refusal.JobFault.TheVariants.{Range}
 use Rattle.request_words.specs.declared.usage.OptionName.TheVariants as option
 use Rattle.request_words.specs.declared.usage.Request.{Request}
-use Rattle.schema_plan.specs.Dictionaries.{Project}
+use Rattle.schema_facts.specs.Dictionaries.{Project}
 use Rattle.update_box.specs.Parts.{name_at}
 use Rattle.pdgf_run.specs.DueFiles.{text_files}
 

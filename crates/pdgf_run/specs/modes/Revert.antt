@@ -8,8 +8,8 @@ use Rattle.refusals.specs.declared.refusal.JobFault.TheVariants as job
 use Rattle.request_words.specs.declared.usage.OptionName.TheVariants as option
 use Rattle.request_words.specs.declared.usage.Request.{Request}
 use Rattle.row_lines.specs.Lines.{table_text}
-use Rattle.schema_plan.specs.Dictionaries.{Project}
-use Rattle.schema_plan.specs.Layout.{layout_of}
+use Rattle.schema_facts.specs.Dictionaries.{Project}
+use Rattle.schema_facts.specs.Layout.{layout_of}
 use Rattle.update_box.specs.Packages.{chosen_places}
 use Rattle.update_box.specs.Parts.{name_at}
 use Rattle.pdgf_run.specs.DueFiles.{chosen_table}

@@ -10,9 +10,9 @@ use Rattle.refusals.specs.declared.refusal.JobFault.TheVariants.{Range}
 use Rattle.request_words.specs.declared.usage.OptionName.TheVariants as option
 use Rattle.request_words.specs.declared.usage.Request.{Request}
 use Rattle.sample_tables.specs.Schema.{sample_project}
-use Rattle.schema_plan.specs.Dictionaries.{Project}
-use Rattle.schema_plan.specs.Layout.{layout_of}
-use Rattle.schema_plan.specs.TableFacts.{reach}
+use Rattle.schema_facts.specs.Dictionaries.{Project}
+use Rattle.schema_facts.specs.Layout.{layout_of}
+use Rattle.schema_facts.specs.TableFacts.{reach}
 use Rattle.stream_apply.specs.InTurn.{IsAppliedText}
 use Rattle.stream_apply.specs.declared.key_fields.KeyFields.TheVariants.{One}
 use Rattle.update_box.specs.Parts.{content_text, name_at}

@@ -3,9 +3,9 @@ use Rattle.std.specs.Prelude.{ℕ, ◌+◌, ◌==◌, ◌||◌, nat_lt, List, Op
 use Rattle.pd_outside.specs.Files.{File}
 use Rattle.plan_stages.specs.Stages.{on_ok}
 use Rattle.schema_model.specs.declared.table.Schema.{Schema}
-use Rattle.schema_plan.specs.Dictionaries.{Project}
-use Rattle.schema_plan.specs.Layout.{layout_of}
-use Rattle.schema_plan.specs.TableFacts.{reach}
+use Rattle.schema_facts.specs.Dictionaries.{Project}
+use Rattle.schema_facts.specs.Layout.{layout_of}
+use Rattle.schema_facts.specs.TableFacts.{reach}
 use Rattle.life_intervals.specs.Generator.{last_unit}
 use Rattle.refusals.specs.declared.refusal.JobFault.{JobFault}
 use Rattle.refusals.specs.declared.refusal.JobFault.TheVariants.{Range}

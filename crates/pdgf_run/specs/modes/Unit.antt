@@ -1,7 +1,7 @@
 -- Mode unit: what a unit changes in tables.
 use Rattle.std.specs.Prelude.{◌==◌, ◌||◌, nat_lt, List, Result, Err, if◌then◌else◌}
 use Rattle.pd_outside.specs.Files.{File}
-use Rattle.schema_plan.specs.Dictionaries.{Project}
+use Rattle.schema_facts.specs.Dictionaries.{Project}
 use Rattle.life_intervals.specs.Generator.{last_unit}
 use Rattle.refusals.specs.declared.refusal.JobFault.{JobFault}
 use Rattle.refusals.specs.declared.refusal.JobFault.TheVariants.{Range}

@@ -15,7 +15,7 @@ ghost use Rattle.life_intervals.specs.JobOrders.{AreOrdersOf};
 ghost use Rattle.update_box.specs.Cuts.{text_in};
 ghost use Rattle.update_box.specs.TableLists.{HoldLists};
 ghost use Rattle.detail_plan.specs.Kept.{KeepsRules};
-ghost use Rattle.detail_rows.specs.Lines.{parent_place};
+ghost use Rattle.detail_lines.specs.Lines.{parent_place};
 ghost use Rattle.detail_rows.specs.Packages.{AreTold, count_of, range_text, rows_in, text_numbered};
 ghost use Rattle.pdgf_run.specs.Details.{AsksForDetails};
 ghost use Rattle.pdgf_run.specs.DueFiles.{contents_of, default_package, most_page_bytes, page_bytes, told_by};

@@ -7,7 +7,7 @@ ghost use Rattle.plan_stages.specs.Limits.{schema_limit};
 ghost use Rattle.plan_stages.specs.PlanNames.{AskedNone};
 ghost use Rattle.plan_stages.specs.Stages.{ended, told_files, IsReadOut};
 ghost use Rattle.refusals.specs.Statuses.{job_status};
-ghost use Rattle.schema_plan.specs.Layout.{layout_of};
+ghost use Rattle.schema_facts.specs.Layout.{layout_of};
 ghost use Rattle.detail_plan.specs.declared.detail.Detail.{Detail as Declared};
 ghost use Rattle.pdgf_run.specs.Jobs.{due_of, CanFill};
 ghost use Rattle.pdgf_run.specs.Replay.{input_limit};

@@ -3,8 +3,8 @@
 ghost use Rattle.std.specs.Prelude.{◌≡◌, ◌<◌, ◌≤◌, ◌+◌, ◌⊎◌, IfErr, IfOk, IfSome, IsOk, IsSome, OnErr, length};
 ghost use Rattle.std.specs.Option.{option_map};
 ghost use Rattle.line_pages.specs.Pages.{Page};
-ghost use Rattle.schema_plan.specs.Layout.{layout_of};
-ghost use Rattle.schema_plan.specs.TableFacts.{max_line};
+ghost use Rattle.schema_facts.specs.Layout.{layout_of};
+ghost use Rattle.schema_facts.specs.TableFacts.{max_line};
 ghost use Rattle.life_intervals.specs.Generator.{last_unit};
 ghost use Rattle.plan_stages.specs.Stages.{Decides};
 ghost use Rattle.refusals.specs.Statuses.{job_status};

@@ -9,7 +9,7 @@ ghost use Rattle.row_lines.specs.Lines.{table_text};
 ghost use Rattle.stream_apply.specs.InTurn.{IsAppliedText};
 ghost use Rattle.update_box.specs.Packages.{IsJobOf};
 ghost use Rattle.update_box.specs.TextLaws.{unit_streams};
-ghost use Rattle.schema_plan.specs.Layout.{layout_of};
+ghost use Rattle.schema_facts.specs.Layout.{layout_of};
 ghost use Rattle.pdgf_run.specs.Jobs.{due_of, CanPackBy, CanFill};
 ghost use Rattle.pdgf_run.specs.Verdict.{IsDecided};
 ghost use Rattle.pdgf_run.specs.Sampled.{AreFew, AreTexts, RiseLittle, whole_job};

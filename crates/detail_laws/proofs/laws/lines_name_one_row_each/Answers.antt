@@ -1,4 +1,4 @@
-use Rattle.detail_rows.proofs.DeclaredLemmas.{delimits}
+use Rattle.detail_lines.proofs.DeclaredLemmas.{delimits}
 use Rattle.detail_laws.proofs.NameLemmas.{lines-name}
 use Rattle.detail_laws.proofs.laws.lines_name_one_row_each.Goals as goal
 

@@ -1,5 +1,5 @@
 use Rattle.detail_laws.proofs.ApplyLawLemmas.{text-applied, unit-applied, units-applied}
-use Rattle.detail_rows.proofs.DeclaredLemmas.{delimits}
+use Rattle.detail_lines.proofs.DeclaredLemmas.{delimits}
 use Rattle.detail_laws.proofs.laws.streams_give_the_next_details.Goals as goal
 
 pub returns : goal.returns

@@ -1,9 +1,9 @@
 use Rattle.std.proofs.Common.{◌≡◌, ◌∙◌, ◌≤◌, ◌++◌, ℕ, All, List, ap, arith, subst, sym}
 use Rattle.schema_model.specs.declared.column.Column.{Column}
 use Rattle.schema_model.specs.declared.table.Table.{Table}
-use Rattle.schema_plan.specs.Capped.{capped}
+use Rattle.schema_facts.specs.Capped.{capped}
 use Rattle.schema_plan.specs.Beside.{facts_beside, ready_beside}
-use Rattle.schema_plan.specs.Dictionaries.{Dictionary}
+use Rattle.schema_facts.specs.Dictionaries.{Dictionary}
 use Rattle.schema_plan.specs.Limits.{CanBeReady}
 use Rattle.detail_plan.specs.Beside.{columns_beside}
 use Rattle.detail_plan.specs.Kept.{KeepsRules}

@@ -1,6 +1,6 @@
 use Rattle.std.proofs.Common.{◌≡◌, ◌≤◌, ◌*◌, ◌++◌, ℕ, length}
 use Rattle.philox_seeds.specs.SeedTree.{draw}
-use Rattle.schema_plan.specs.FieldSizes.{greatest_by}
+use Rattle.schema_facts.specs.FieldSizes.{greatest_by}
 use Rattle.draw_values.specs.ReadyValues.{chosen_texts}
 use Rattle.draw_values.proofs.characters.put_characters.Given as goal
 

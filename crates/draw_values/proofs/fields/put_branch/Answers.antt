@@ -3,7 +3,7 @@ use Rattle.std.specs.Prelude.{IfSome, option_map, unwrap_or}
 use Rattle.std.proofs.lemmas.List.{get_or_default}
 use Rattle.philox_seeds.specs.SeedTree.{draw}
 use Rattle.schema_plan.specs.declared.ready.ReadyLeaf.{ReadyLeaf}
-use Rattle.schema_plan.specs.FieldSizes.{greatest_by}
+use Rattle.schema_facts.specs.FieldSizes.{greatest_by}
 use Rattle.draw_values.specs.ReadyValues.{ready_branch, ready_size, ready_text}
 use Rattle.draw_values.proofs.SizeLemmas.{greatest_by-each}
 use Rattle.draw_values.proofs.fields.put_branch.Goals as goal

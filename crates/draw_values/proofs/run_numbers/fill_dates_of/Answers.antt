@@ -1,7 +1,7 @@
 use Rattle.std.proofs.Common.{◌++◌, ℕ, ℤ, List, get_or, pos, ap, ◌∙◌, arith}
 use Rattle.std.proofs.lemmas.Int.{ints}
 use Rattle.line_pages.specs.Pieces.{piece_text}
-use Rattle.schema_plan.specs.Ends.{IsInCalendar}
+use Rattle.schema_facts.specs.Ends.{IsInCalendar}
 use Rattle.draw_values.specs.Dates.{date_text}
 use Rattle.draw_values.specs.Runs.{with_behind}
 use Rattle.draw_values.proofs.PieceLemmas.{text-written}

@@ -1,7 +1,7 @@
 use Rattle.std.proofs.Common.{◌≡◌, ◌<◌, ◌+ℤ◌, ◌*◌, ◌%◌, ℕ, pos, [], List, get_or, length, map, ap, ◌∙◌, arith}
 use Rattle.std.proofs.lemmas.List.{get_or-map, length-map}
 use Rattle.line_pages.specs.Pieces.{piece_text}
-use Rattle.schema_plan.specs.Choices.{choices}
+use Rattle.schema_facts.specs.Choices.{choices}
 use Rattle.draw_values.specs.Dates.{date_text}
 use Rattle.draw_values.specs.Runs.{with_behind}
 use Rattle.draw_values.proofs.RunLemmas.{days_kept}

@@ -1,6 +1,6 @@
 use Rattle.std.proofs.Common.{◌≡◌, ℕ, ◌++◌, List, option_map, refl, ap, ◌∙◌, arith}
 use Rattle.row_text.specs.Fields.{escaped_text as written_text}
-use Rattle.schema_plan.specs.Layout.{layout_of}
+use Rattle.schema_facts.specs.Layout.{layout_of}
 use Rattle.draw_values.specs.ReadyValues.{ready_field, ready_kind_size, row_draws}
 use Rattle.draw_values.specs.Values.{value_at}
 use Rattle.draw_values.proofs.FieldLemmas.{IsKeptField, column_has_day, field_is_ready, kept_field, length-field_text, put_of-written, size_at-kept, unwrap_or-written, value_at-kept}

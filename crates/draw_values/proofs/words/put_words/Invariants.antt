@@ -1,6 +1,6 @@
 use Rattle.std.proofs.Common.{◌≡◌, ◌≤◌, ◌++◌, ℕ, length}
 use Rattle.philox_seeds.specs.SeedTree.{draw}
-use Rattle.schema_plan.specs.FieldSizes.{greatest_by, joined_size}
+use Rattle.schema_facts.specs.FieldSizes.{greatest_by, joined_size}
 use Rattle.draw_values.specs.Values.{drawn_words}
 use Rattle.draw_values.proofs.words.put_words.Given as goal
 

@@ -2,7 +2,7 @@ use Rattle.std.proofs.Common.{◌<◌, ℕ, suc, ◌+◌, ◌-◌, ◌∷◌, []
 use Rattle.pd_outside.proofs.Counts.{failed_then, unfailed_then}
 use Rattle.std.specs.List.{range_with_len}
 use Rattle.std.proofs.lemmas.Result.{err_from_is_err_and}
-use Rattle.schema_plan.specs.Dictionaries.{Project}
+use Rattle.schema_facts.specs.Dictionaries.{Project}
 use Rattle.schema_plan.specs.Limits.{IsInLimits}
 use Rattle.life_intervals.specs.Generator.{generator_of, table_of}
 use Rattle.life_intervals.specs.Intervals.{is_live}

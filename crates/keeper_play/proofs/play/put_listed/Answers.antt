@@ -5,7 +5,7 @@ use Rattle.life_intervals.specs.Found.{IsFound}
 use Rattle.life_intervals.proofs.FoundLemmas.{found-early}
 use Rattle.pd_outside.proofs.Counts.{failed_then, unfailed_then}
 use Rattle.std.proofs.lemmas.Result.{err_from_is_err_and}
-use Rattle.schema_plan.specs.Dictionaries.{Project}
+use Rattle.schema_facts.specs.Dictionaries.{Project}
 use Rattle.life_intervals.specs.Generator.{generator_of, last_unit, rows_in_all, table_of}
 use Rattle.life_intervals.specs.Intervals.{is_live}
 use Rattle.cohort_sizes.specs.Births.{born_count}

@@ -1,6 +1,6 @@
 use Rattle.std.proofs.Common.{◌≤◌, ◌<◌, ◌/◌, ◌*◌, ◌^◌, ℕ, arith, sym}
 use Rattle.std.proofs.lemmas.Nat.{div-add-mod', mul-le}
-use Rattle.schema_plan.proofs.SpreadLemmas.{spread_sum}
+use Rattle.schema_facts.proofs.SpreadLemmas.{spread_sum}
 use Rattle.life_intervals.proofs.BlockLemmas.{block_start-from, none_from_over}
 use Rattle.life_intervals.proofs.children.block_below.Goals as goal
 

@@ -3,9 +3,9 @@ use Rattle.philox_seeds.specs.SeedTree.{deal_seed}
 use Rattle.id_permutation.specs.Order.{Arrangement, number_at}
 use Rattle.schema_plan.specs.declared.ready.ReadyColumn.{ReadyColumn}
 use Rattle.schema_plan.specs.declared.ready.ReadyReference.{ReadyReference}
-use Rattle.schema_plan.specs.Dictionaries.{Project}
-use Rattle.schema_plan.specs.Layout.{layout_of}
-use Rattle.schema_plan.specs.References.{Reference, reference_at}
+use Rattle.schema_facts.specs.Dictionaries.{Project}
+use Rattle.schema_facts.specs.Layout.{layout_of}
+use Rattle.schema_facts.specs.References.{Reference, reference_at}
 use Rattle.life_intervals.specs.declared.window.CandidateWindow.{CandidateWindow}
 use Rattle.life_intervals.specs.Children.{IsCandidate, candidate_count, deal_number}
 use Rattle.life_intervals.specs.CohortParents.{reference_by, window_by}

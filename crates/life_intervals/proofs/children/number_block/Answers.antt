@@ -1,7 +1,7 @@
 use Rattle.std.proofs.Common.{◌-◌, ◌*◌, ◌<◌, ◌^◌, ℕ, ap, arith, subst, sym, ◌∙◌}
 use Rattle.schema_plan.specs.declared.ready.ReadyColumn.{ReadyColumn}
-use Rattle.schema_plan.specs.Dictionaries.{Project}
-use Rattle.schema_plan.specs.References.{Reference, reference_at}
+use Rattle.schema_facts.specs.Dictionaries.{Project}
+use Rattle.schema_facts.specs.References.{Reference, reference_at}
 use Rattle.life_intervals.specs.Children.{candidate_count, number_block}
 use Rattle.life_intervals.specs.Generator.{table_of}
 use Rattle.life_intervals.proofs.ChildLemmas.{HasReference-some, IsRead-columns, number_block-cut}

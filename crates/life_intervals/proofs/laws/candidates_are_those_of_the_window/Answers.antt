@@ -1,6 +1,6 @@
 use Rattle.std.proofs.Common.{get_or}
-use Rattle.schema_plan.specs.Layout.{table_at}
-use Rattle.schema_plan.specs.References.{references_of}
+use Rattle.schema_facts.specs.Layout.{table_at}
+use Rattle.schema_facts.specs.References.{references_of}
 use Rattle.life_intervals.proofs.SoundLemmas.{candidates-rows_at, count_in_window-some}
 use Rattle.life_intervals.proofs.laws.candidates_are_those_of_the_window.Goals as goal
 

@@ -1,6 +1,6 @@
 use Rattle.std.proofs.Common.{◌≡◌, ℕ, zero, suc, ◌+◌, ◌-◌, ◌<◌, All, [], ◌∷◌, arith, refl}
 use Rattle.cohort_sizes.specs.Births.{Births, born_count, first_ordinal}
-use Rattle.schema_plan.specs.Lineage.{lineages}
+use Rattle.schema_facts.specs.Lineage.{lineages}
 use Rattle.life_intervals.specs.Sound.{IsSoundReference}
 use Rattle.cohort_sizes.proofs.StretchLemmas.{first_ordinal-one_rate}
 use Rattle.life_intervals.specs.Worked.{sales_in_place, talks_in_place}

@@ -1,6 +1,6 @@
 use Rattle.std.proofs.Common.{◌≡◌, ℕ, Some, ap, subst, ◌∙◌}
-use Rattle.schema_plan.specs.Dictionaries.{Project}
-use Rattle.schema_plan.specs.References.{Reference, reference_at}
+use Rattle.schema_facts.specs.Dictionaries.{Project}
+use Rattle.schema_facts.specs.References.{Reference, reference_at}
 use Rattle.life_intervals.specs.Generator.{generator_of, last_unit, table_of}
 use Rattle.life_intervals.specs.Intervals.{parent_of}
 use Rattle.life_intervals.specs.Simulation.{holds_row, rows_at}

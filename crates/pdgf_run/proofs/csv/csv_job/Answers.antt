@@ -4,7 +4,7 @@ use Rattle.std.specs.List.{sum_by}
 use Rattle.std.proofs.lemmas.Bool.{cases_lt}
 use Rattle.pd_outside.specs.Files.{File}
 use Rattle.pd_outside.specs.Shelf.{Held, finish_files}
-use Rattle.schema_plan.specs.Layout.{layout_of}
+use Rattle.schema_facts.specs.Layout.{layout_of}
 use Rattle.pdgf_run.specs.CsvFiles.{csv_limit}
 use Rattle.pdgf_run.specs.DueFiles.{table_files}
 use Rattle.pdgf_run.specs.Formats.{AreCsvOf}

@@ -3,7 +3,7 @@ use Rattle.std.specs.List.{range_with_len}
 use Rattle.std.proofs.lemmas.List.{length-map}
 use Rattle.csv_face.specs.Csv.{HasRows}
 use Rattle.pd_outside.specs.Files.{File}
-use Rattle.schema_plan.specs.Layout.{layout_of}
+use Rattle.schema_facts.specs.Layout.{layout_of}
 use Rattle.update_box.specs.Packages.{chosen_places}
 use Rattle.update_box.specs.Parts.{Part, parts_of}
 use Rattle.request_words.specs.declared.usage.Format.TheVariants.{Csv}

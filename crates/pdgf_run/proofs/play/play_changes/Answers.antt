@@ -1,5 +1,5 @@
 use Rattle.std.proofs.Common.{ap, ◌∙◌}
-use Rattle.schema_plan.specs.Dictionaries.{Project}
+use Rattle.schema_facts.specs.Dictionaries.{Project}
 use Rattle.update_box.specs.UnitLists.{unit_lists}
 use Rattle.pdgf_run.proofs.PlayLemmas.{later-told}
 use Rattle.pdgf_run.proofs.play.play_changes.Goals as goal

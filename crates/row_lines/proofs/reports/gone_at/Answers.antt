@@ -1,5 +1,5 @@
 use Rattle.std.proofs.Common.{◌≡◌, ℕ, Option, Some, None, ap, arith, sym, ◌∙◌}
-use Rattle.schema_plan.specs.Dictionaries.{Project}
+use Rattle.schema_facts.specs.Dictionaries.{Project}
 use Rattle.life_intervals.specs.Generator.{generator_of, last_unit}
 use Rattle.row_lines.specs.Reports.{gone_at}
 use Rattle.row_lines.proofs.ReportLemmas.{by_last, by_last-early, by_last-late, gone_at-death}

@@ -1,7 +1,7 @@
 use Rattle.std.proofs.Common.{◌≡◌, ◌++◌, ◌≤◌, ◌+◌, ℕ, List, [], Option, Some, None, option_map, unwrap_or, is_some, length, ap, arith, subst, sym, ◌∙◌, append-nil}
 use Rattle.std.proofs.lemmas.Option.{none-some}
-use Rattle.schema_plan.specs.Layout.{layout_of}
-use Rattle.schema_plan.specs.TableFacts.{max_line}
+use Rattle.schema_facts.specs.Layout.{layout_of}
+use Rattle.schema_facts.specs.TableFacts.{max_line}
 use Rattle.life_intervals.specs.Generator.{generator_of, last_unit}
 use Rattle.row_lines.specs.Reports.{report_on, row_report}
 use Rattle.row_lines.proofs.ReportLemmas.{row_with_key-found, row_with_key-none}

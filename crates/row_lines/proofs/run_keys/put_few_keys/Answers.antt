@@ -1,6 +1,6 @@
 use Rattle.std.proofs.Common.{◌≡◌, ◌<◌, ◌≤◌, ◌*◌, ◌^◌, ◌++◌, ℕ, List, length, get_or, ap, arith, subst, sym, ◌∙◌}
 use Rattle.std.specs.List.{flat_map}
-use Rattle.schema_plan.specs.Dictionaries.{Project}
+use Rattle.schema_facts.specs.Dictionaries.{Project}
 use Rattle.schema_plan.specs.Limits.{IsTableInLimits}
 use Rattle.life_intervals.specs.Generator.{last_unit, table_of}
 use Rattle.row_lines.specs.Runs.{keys_text}

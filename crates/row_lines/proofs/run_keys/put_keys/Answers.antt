@@ -1,6 +1,6 @@
 use Rattle.std.proofs.Common.{◌≡◌, ◌≤◌, ◌+◌, ◌-◌, ◌*◌, ℕ, List, length, take, drop, ap, arith, ◌∙◌}
-use Rattle.schema_plan.specs.Dictionaries.{Project}
-use Rattle.schema_plan.specs.Lineage.{one_if}
+use Rattle.schema_facts.specs.Dictionaries.{Project}
+use Rattle.schema_facts.specs.Lineage.{one_if}
 use Rattle.life_intervals.specs.Generator.{table_of}
 use Rattle.row_lines.specs.Runs.{keys_text}
 use Rattle.row_lines.proofs.ListLemmas.{part_length}

@@ -1,5 +1,5 @@
 use Rattle.std.proofs.Common.{◌≡◌, ◌≤◌, ◌+◌, ◌-◌, ◌*◌, ◌++◌, length, take}
-use Rattle.schema_plan.specs.Lineage.{one_if}
+use Rattle.schema_facts.specs.Lineage.{one_if}
 use Rattle.life_intervals.specs.Generator.{table_of}
 use Rattle.row_lines.specs.Runs.{keys_text}
 use Rattle.row_lines.proofs.run_keys.put_keys.Given as goal

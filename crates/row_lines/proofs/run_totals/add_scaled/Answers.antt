@@ -1,6 +1,6 @@
 use Rattle.std.proofs.Common.{◌≡◌, ◌+ℤ◌, ◌*ℤ◌, ℕ, ℤ, FitsSigned, w64, to_z, of_z, get_or, pos, ap, ap₂, arith, subst, sym, ◌∙◌}
 use Rattle.std.proofs.lemmas.Int.{to_z-of_z}
-use Rattle.schema_plan.specs.Ends.{IsInRange}
+use Rattle.schema_facts.specs.Ends.{IsInRange}
 use Rattle.row_lines.proofs.RunTotalLemmas.{back_range, fits_range, set-behind, set-more}
 use Rattle.row_lines.proofs.run_totals.add_scaled.Goals as goal
 use Rattle.row_lines.proofs.run_totals.add_scaled.Goals.{In-loop-i}

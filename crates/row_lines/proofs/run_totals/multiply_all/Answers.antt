@@ -1,5 +1,5 @@
 use Rattle.std.proofs.Common.{◌≡◌, ◌*ℤ◌, ℕ, ℤ, w64, to_z, of_z, get_or, pos, ap, ap₂, arith, subst, sym, ◌∙◌}
-use Rattle.schema_plan.specs.Ends.{IsInRange}
+use Rattle.schema_facts.specs.Ends.{IsInRange}
 use Rattle.row_lines.proofs.RunTotalLemmas.{back_range, set-behind, set-more}
 use Rattle.row_lines.proofs.run_totals.multiply_all.Goals as goal
 use Rattle.row_lines.proofs.run_totals.multiply_all.Goals.{In-loop-i}

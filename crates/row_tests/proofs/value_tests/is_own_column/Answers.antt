@@ -1,7 +1,7 @@
 use Rattle.std.proofs.Common.{◌<◌, ◌≤◌, length, ap, sym, arith}
 use Rattle.std.proofs.lemmas.Bool.{ltb-true}
-use Rattle.schema_plan.specs.Layout.{Layout, layout_of}
-use Rattle.schema_plan.specs.TableFacts.{max_line}
+use Rattle.schema_facts.specs.Layout.{Layout, layout_of}
+use Rattle.schema_facts.specs.TableFacts.{max_line}
 use Rattle.draw_values.specs.Values.{size_at}
 use Rattle.draw_values.proofs.ColumnLemmas.{length-ready_columns}
 use Rattle.row_tests.proofs.LineLemmas.{size_at-within}

@@ -3,7 +3,7 @@ use Rattle.schema_check.specs.declared.checker.CheckFault.{CheckFault}
 use Rattle.schema_check.specs.declared.checker.CheckFault.TheVariants.{Rule, Memory}
 use Rattle.std.specs.Option.{option_map}
 use Rattle.schema_plan.specs.declared.broken.Broken.{Broken}
-use Rattle.schema_plan.specs.Dictionaries.{Project, project_of}
+use Rattle.schema_facts.specs.Dictionaries.{Project, project_of}
 use Rattle.schema_plan.specs.Rules.{first_broken}
 use Rattle.schema_check.specs.Faults.{Tells, refusal_of, told}
 use Rattle.schema_check.proofs.InLimits.{in_limits}

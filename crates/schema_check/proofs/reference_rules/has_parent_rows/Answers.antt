@@ -1,7 +1,7 @@
 use Rattle.std.proofs.Common.{◌≡◌, ◌+◌, ◌<◌, ◌≤◌, ◌==◌, ◌||◌, ℕ, Bool, true, arith, subst, sym, ◌∙◌}
 use Rattle.std.proofs.lemmas.Bool.Decides.{nat_tests}
 use Rattle.cohort_sizes.specs.Births.{Births}
-use Rattle.schema_plan.specs.Layout.{births_of, window_layout}
+use Rattle.schema_facts.specs.Layout.{births_of, window_layout}
 use Rattle.schema_plan.specs.Rules.{has_parent_row, table_in}
 use Rattle.schema_check.proofs.ReferenceLemmas.{IsLatest, IsLatest-none, IsLatest-some, has_parent_row-is, tests_fail, tests_more}
 use Rattle.schema_check.proofs.reference_rules.has_parent_rows.Goals as goal

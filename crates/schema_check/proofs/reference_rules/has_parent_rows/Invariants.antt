@@ -1,6 +1,6 @@
 use Rattle.std.proofs.Common.{◌≡◌, true}
 use Rattle.std.specs.List.{list_all, range_with_len}
-use Rattle.schema_plan.specs.Layout.{births_of, window_layout}
+use Rattle.schema_facts.specs.Layout.{births_of, window_layout}
 use Rattle.schema_plan.specs.Rules.{has_parent_row, table_in}
 use Rattle.schema_check.proofs.ReferenceLemmas.{IsLatest}
 use Rattle.schema_check.proofs.reference_rules.has_parent_rows.Given as goal

@@ -2,10 +2,10 @@ use Rattle.std.proofs.Common.{◌≡◌, ℕ, ◌<◌, ◌||◌, false, List, Op
 use Rattle.std.proofs.lemmas.Bool.Decides.{nat_tests}
 use Rattle.schema_model.specs.declared.table.Schema.{Schema}
 use Rattle.schema_model.specs.declared.table.Table.{Table}
-use Rattle.schema_plan.specs.declared.facts.TableFacts.{TableFacts}
-use Rattle.schema_plan.specs.declared.lineage.Lineage.{Lineage}
-use Rattle.schema_plan.specs.Layout.{layout_of, place_of_table}
-use Rattle.schema_plan.specs.Lineage.{lineage_at, sure_life}
+use Rattle.schema_facts.specs.declared.facts.TableFacts.{TableFacts}
+use Rattle.schema_facts.specs.declared.lineage.Lineage.{Lineage}
+use Rattle.schema_facts.specs.Layout.{layout_of, place_of_table}
+use Rattle.schema_facts.specs.Lineage.{lineage_at, sure_life}
 use Rattle.schema_plan.specs.Rules.{is_within_life}
 use Rattle.schema_check.proofs.ReferenceLemmas.{sure_life-first}
 use Rattle.schema_check.proofs.reference_rules.is_window_of.Goals as goal

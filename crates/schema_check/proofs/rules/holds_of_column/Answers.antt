@@ -1,11 +1,11 @@
 use Rattle.std.proofs.Common.{◌∙◌, ◌||◌, List, length, map, nat_le, refl, ap}
 use Rattle.schema_model.specs.declared.column.Column.{Column}
-use Rattle.schema_plan.specs.declared.column_facts.ColumnFacts.{ColumnFacts}
-use Rattle.schema_plan.specs.declared.facts.TableFacts.{TableFacts}
+use Rattle.schema_facts.specs.declared.column_facts.ColumnFacts.{ColumnFacts}
+use Rattle.schema_facts.specs.declared.facts.TableFacts.{TableFacts}
 use Rattle.schema_plan.specs.declared.rules.Rule.TheVariants.{LaterDates, Totals}
 use Rattle.schema_plan.specs.declared.site.Site.TheVariants.{OfColumn}
-use Rattle.schema_plan.specs.Capped.{first_facts}
-use Rattle.schema_plan.specs.FactsBefore.{facts_in}
+use Rattle.schema_facts.specs.Capped.{first_facts}
+use Rattle.schema_facts.specs.FactsBefore.{facts_in}
 use Rattle.schema_plan.specs.Rules.{is_later_date, is_total, kind_at}
 use Rattle.schema_plan.specs.Sites.{columns_at}
 use Rattle.schema_check.proofs.RuleLemmas.{holds_at, known_facts-is}

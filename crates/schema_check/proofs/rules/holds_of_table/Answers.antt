@@ -1,9 +1,9 @@
 use Rattle.std.proofs.Common.{◌∙◌, ap, map, refl}
 use Rattle.schema_model.specs.declared.table.Table.{Table}
-use Rattle.schema_plan.specs.declared.facts.TableFacts.{TableFacts}
+use Rattle.schema_facts.specs.declared.facts.TableFacts.{TableFacts}
 use Rattle.schema_plan.specs.declared.rules.Rule.TheVariants.{TableNames, RowCost, LineSize}
 use Rattle.schema_plan.specs.declared.site.Site.TheVariants.{OfTable}
-use Rattle.schema_plan.specs.Capped.{is_known_at_most}
+use Rattle.schema_facts.specs.Capped.{is_known_at_most}
 use Rattle.schema_plan.specs.Rules.{is_new_at}
 use Rattle.schema_check.proofs.RuleLemmas.{holds_at, row_cost-is, line_size-is}
 use Rattle.schema_check.proofs.rules.holds_of_table.Goals as goal

@@ -1,7 +1,7 @@
 use Rattle.std.proofs.Common.{◌≡◌, ◌∙◌, ℤ, pos, negsuc, ℕ, ◌≤◌, ◌≤ℤ◌, w64, ap, arith}
 use Rattle.std.proofs.lemmas.Int.{ints, to_z-of_z}
 use Rattle.std.proofs.lemmas.Nat.{mul-le}
-use Rattle.schema_plan.specs.Counts.{count}
+use Rattle.schema_facts.specs.Counts.{count}
 use Rattle.schema_check.proofs.unit_date_rules.is_last_day.Goals as goal
 
 count_within : (n : ℤ) (hi : ℕ) → n ≤ℤ pos hi → count n ≤ hi

@@ -1,5 +1,5 @@
 use Rattle.std.proofs.Common.{◌≡◌, map, take}
-use Rattle.schema_plan.specs.Layout.{rate_of}
+use Rattle.schema_facts.specs.Layout.{rate_of}
 use Rattle.schema_plan.proofs.births.rates_of.Given as goal
 
 abbrev pub invariant-loop-phase : goal.invariant-loop-phase

@@ -1,5 +1,5 @@
 use Rattle.std.proofs.Common.{◌≡◌, map, take}
-use Rattle.schema_plan.specs.Layout.{place_of_column}
+use Rattle.schema_facts.specs.Layout.{place_of_column}
 use Rattle.schema_plan.proofs.ready_columns.places_of.Given as goal
 
 abbrev pub invariant-loop-name : goal.invariant-loop-name

@@ -1,6 +1,6 @@
 use Rattle.std.proofs.Common.{◌≡◌, map, take}
 use Rattle.schema_model.specs.declared.column.Leaf.{Leaf}
-use Rattle.schema_plan.specs.Layout.{leaf_layout}
+use Rattle.schema_facts.specs.Layout.{leaf_layout}
 use Rattle.schema_plan.specs.Ready.{ready_leaf}
 use Rattle.schema_plan.proofs.ready_columns.ready_branches.Given as goal
 

@@ -2,9 +2,9 @@ use Rattle.std.proofs.Common.{map, sym, ap, ◌∙◌}
 use Rattle.schema_model.specs.declared.column.Leaf.{Leaf}
 use Rattle.schema_model.specs.declared.column.Part.{Part}
 use Rattle.schema_plan.specs.declared.ready.ReadyKind.TheVariants.{Case, Template}
-use Rattle.schema_plan.specs.Layout.{kind_layout, leaf_layout, part_layout}
+use Rattle.schema_facts.specs.Layout.{kind_layout, leaf_layout, part_layout}
 use Rattle.schema_plan.specs.Ready.{ready_kind, ready_leaf, ready_part}
-use Rattle.schema_plan.proofs.Lists.{map-map}
+use Rattle.schema_facts.proofs.Lists.{map-map}
 use Rattle.schema_plan.proofs.ready_columns.ready_kind.Goals as goal
 
 pub returns-in_ok-parts-in-Template : goal.returns-in_ok-parts-in-Template

@@ -1,6 +1,6 @@
 use Rattle.std.proofs.Common.{map, sum, ◌∙◌, arith, ap}
-use Rattle.schema_plan.specs.Counts.{count}
-use Rattle.schema_plan.proofs.SpreadLemmas.{spread_sum}
+use Rattle.schema_facts.specs.Counts.{count}
+use Rattle.schema_facts.proofs.SpreadLemmas.{spread_sum}
 use Rattle.schema_plan.proofs.ready_columns.ready_reference.Goals as goal
 
 pub new-requires-clause-small : goal.new-requires-clause-small

@@ -2,7 +2,7 @@ use Rattle.std.proofs.Common.{◌≡◌, ◌<◌, ◌∙◌, ap, length, get_or,
 use Rattle.schema_model.specs.declared.table.Table.{Table}
 use Rattle.schema_plan.proofs.ReadyLemmas.{columns_in_limits, one_table_more}
 use Rattle.schema_plan.proofs.ready_columns.ready_tables.Goals as goal
-use Rattle.schema_plan.specs.Dictionaries.{project_of}
+use Rattle.schema_facts.specs.Dictionaries.{project_of}
 
 pub ready_columns-requires : goal.ready_columns-requires
 ready_columns-requires c =

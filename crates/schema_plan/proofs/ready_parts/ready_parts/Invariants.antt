@@ -1,6 +1,6 @@
 use Rattle.std.proofs.Common.{◌≡◌, map, take}
 use Rattle.schema_model.specs.declared.column.Part.{Part}
-use Rattle.schema_plan.specs.Layout.{part_layout}
+use Rattle.schema_facts.specs.Layout.{part_layout}
 use Rattle.schema_plan.specs.Ready.{ready_part}
 use Rattle.schema_plan.proofs.ready_parts.ready_parts.Given as goal
 

@@ -1,5 +1,5 @@
 use Rattle.std.proofs.Common.{◌≡◌, map, take}
-use Rattle.schema_plan.specs.Dictionaries.{Dictionary}
+use Rattle.schema_facts.specs.Dictionaries.{Dictionary}
 use Rattle.schema_plan.specs.ReadyWords.{written_words}
 use Rattle.schema_plan.proofs.ready_words.ready_words.Given as goal
 

@@ -1,5 +1,5 @@
 use Rattle.std.proofs.Common.{◌≡◌, ap, arith, sym, ◌∙◌}
-use Rattle.schema_plan.specs.Layout.{column_at, layout_of}
+use Rattle.schema_facts.specs.Layout.{column_at, layout_of}
 use Rattle.schema_plan.specs.Ready.{ready_kind}
 use Rattle.schema_plan.specs.declared.ready.ReadyColumn.{ReadyColumn}
 use Rattle.schema_plan.specs.declared.ready.ReadyKind.TheVariants as kind

@@ -1,5 +1,5 @@
 use Rattle.std.proofs.Common.{◌≡◌, ◌≤◌, ◌*◌, length, take}
-use Rattle.schema_plan.specs.Layout.{layout_of}
+use Rattle.schema_facts.specs.Layout.{layout_of}
 use Rattle.sql_lines.specs.Reach.{statement_size}
 use Rattle.sql_lines.specs.Statements.{deletions_of}
 use Rattle.sql_lines.proofs.packer.put_deletions.Given as goal

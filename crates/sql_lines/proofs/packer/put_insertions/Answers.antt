@@ -1,7 +1,7 @@
 use Rattle.std.proofs.Common.{◌≡◌, ◌≤◌, ◌-◌, ◌*◌, ap, arith}
 use Rattle.std.proofs.Math.Nat.{mul-le-mul_right}
 use Rattle.cohort_sizes.proofs.CohortLemmas.{born_count-le}
-use Rattle.schema_plan.specs.Layout.{layout_of}
+use Rattle.schema_facts.specs.Layout.{layout_of}
 use Rattle.life_intervals.specs.Generator.{last_unit, table_of}
 use Rattle.row_lines.specs.Runs.{RunLinesOf}
 use Rattle.update_box.proofs.PackLemmas.{put-text, text-size}

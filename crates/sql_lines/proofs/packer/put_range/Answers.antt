@@ -1,6 +1,6 @@
 use Rattle.std.proofs.Common.{◌≡◌, ◌≤◌, ◌+◌, ◌-◌, ◌*◌, ℕ, List, ap, arith, drop, length, subst, sym, take, ◌∙◌}
-use Rattle.schema_plan.specs.Dictionaries.{Project}
-use Rattle.schema_plan.specs.Layout.{layout_of}
+use Rattle.schema_facts.specs.Dictionaries.{Project}
+use Rattle.schema_facts.specs.Layout.{layout_of}
 use Rattle.row_lines.specs.Runs.{RunLinesOf}
 use Rattle.update_box.proofs.PackLemmas.{few-taken, text-size}
 use Rattle.sql_lines.specs.Packages.{AreAlive, AreBorn, AreRowsOf, Packages, insertions_between, range_text, row_count, rows_stated}

@@ -1,6 +1,6 @@
 use Rattle.std.proofs.Common.{◌<◌, ◌≤◌, ◌*◌, ℕ, ap, ap₂, arith, length, sym}
-use Rattle.schema_plan.specs.Dictionaries.{Project}
-use Rattle.schema_plan.specs.Layout.{layout_of}
+use Rattle.schema_facts.specs.Dictionaries.{Project}
+use Rattle.schema_facts.specs.Layout.{layout_of}
 use Rattle.update_box.proofs.PackLemmas.{put-none, put-text, text-size}
 use Rattle.sql_lines.specs.Frames.{FrameOf}
 use Rattle.sql_lines.specs.Reach.{statement_size}

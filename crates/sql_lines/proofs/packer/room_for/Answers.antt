@@ -1,5 +1,5 @@
 use Rattle.std.proofs.Common.{◌≤◌, ◌*◌, ℕ, arith, subst, sym}
-use Rattle.schema_plan.specs.Layout.{layout_of}
+use Rattle.schema_facts.specs.Layout.{layout_of}
 use Rattle.sql_lines.specs.Reach.{statement_reach}
 use Rattle.sql_lines.proofs.ReachLemmas.{room-within}
 use Rattle.sql_lines.proofs.packer.room_for.Goals as goal

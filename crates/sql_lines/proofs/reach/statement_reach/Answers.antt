@@ -1,7 +1,7 @@
 use Rattle.std.proofs.Common.{◌≡◌, ◌<◌, ap, arith, length, max, ◌∙◌}
 use Rattle.std.proofs.lemmas.Grind.{common_steps}
-use Rattle.schema_plan.specs.Layout.{layout_of, no_table}
-use Rattle.schema_plan.proofs.Capping.{greatest_more}
+use Rattle.schema_facts.specs.Layout.{layout_of, no_table}
+use Rattle.schema_facts.proofs.Capping.{greatest_more}
 use Rattle.life_intervals.proofs.AcceptedLemmas.{length-tables, place-below}
 use Rattle.sql_lines.specs.Reach.{statement_of_table}
 use Rattle.sql_lines.proofs.ReachLemmas.{reach-whole, size-of_table}

@@ -1,5 +1,5 @@
 use Rattle.std.proofs.Common.{◌≡◌, ◌<◌, ◌≤◌, arith, length}
-use Rattle.schema_plan.specs.Layout.{layout_of}
+use Rattle.schema_facts.specs.Layout.{layout_of}
 use Rattle.life_intervals.specs.Generator.{table_of}
 use Rattle.sql_lines.specs.Reach.{statement_size}
 use Rattle.sql_lines.proofs.BareLemmas.{columns-many}

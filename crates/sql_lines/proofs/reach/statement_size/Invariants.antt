@@ -1,5 +1,5 @@
 use Rattle.std.proofs.Common.{◌≡◌, ◌+◌, sum_by, take}
-use Rattle.schema_plan.specs.Layout.{ColumnLayout, layout_of, table_at}
+use Rattle.schema_facts.specs.Layout.{ColumnLayout, layout_of, table_at}
 use Rattle.sql_lines.specs.Reach.{literal_of_column}
 use Rattle.sql_lines.proofs.reach.statement_size.Given as goal
 

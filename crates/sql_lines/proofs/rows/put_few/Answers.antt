@@ -1,6 +1,6 @@
 use Rattle.std.proofs.Common.{arith}
 use Rattle.std.proofs.Math.Nat.{mul-le-mul_left}
-use Rattle.schema_plan.specs.Layout.{layout_of}
+use Rattle.schema_facts.specs.Layout.{layout_of}
 use Rattle.row_lines.specs.Runs.{RunLinesOf}
 use Rattle.sql_lines.specs.Told.{many_told}
 use Rattle.sql_lines.proofs.SizeLemmas.{line-within}

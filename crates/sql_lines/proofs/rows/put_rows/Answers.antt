@@ -1,5 +1,5 @@
 use Rattle.std.proofs.Common.{◌≡◌, ◌≤◌, ℕ, ◌+◌, ◌*◌, ◌++◌, List, flat_map, arith, ap}
-use Rattle.schema_plan.specs.Layout.{layout_of}
+use Rattle.schema_facts.specs.Layout.{layout_of}
 use Rattle.row_lines.specs.Runs.{RunLinesOf}
 use Rattle.row_lines.proofs.RunTextLemmas.{appended-more, room-more, sizes-more}
 use Rattle.sql_lines.specs.Reach.{statement_size}

@@ -1,5 +1,5 @@
 use Rattle.std.proofs.Common.{◌≡◌, ◌≤◌, ◌-◌, ◌*◌, ◌++◌, flat_map, length}
-use Rattle.schema_plan.specs.Layout.{layout_of}
+use Rattle.schema_facts.specs.Layout.{layout_of}
 use Rattle.sql_lines.specs.Reach.{statement_size}
 use Rattle.sql_lines.specs.Told.{statement_for, told_range}
 use Rattle.sql_lines.proofs.rows.put_rows.Given as goal

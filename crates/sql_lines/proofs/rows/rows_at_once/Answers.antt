@@ -1,6 +1,6 @@
 use Rattle.std.proofs.Common.{◌<◌, ◌≤◌, ℕ, ◌/◌, arith}
 use Rattle.std.proofs.lemmas.Nat.{le-div}
-use Rattle.schema_plan.specs.Layout.{layout_of, no_table}
+use Rattle.schema_facts.specs.Layout.{layout_of, no_table}
 use Rattle.schema_plan.proofs.FieldSizeLemmas.{field-less}
 use Rattle.life_intervals.proofs.AcceptedLemmas.{place-below}
 use Rattle.sql_lines.proofs.rows.rows_at_once.Goals as goal

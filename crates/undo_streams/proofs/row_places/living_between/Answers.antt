@@ -2,7 +2,7 @@ use Rattle.std.proofs.Common.{◌≡◌, ◌+◌, ◌-◌, ◌*◌, ◌<◌, ◌
 use Rattle.std.proofs.Math.Nat.{add-mul}
 use Rattle.cohort_sizes.specs.Births.{Births, LiesIn, born_count}
 use Rattle.cohort_sizes.proofs.CohortLemmas.{born_count-le}
-use Rattle.schema_plan.specs.Dictionaries.{Project}
+use Rattle.schema_facts.specs.Dictionaries.{Project}
 use Rattle.life_intervals.specs.CohortKeys.{IsCohort}
 use Rattle.life_intervals.specs.CohortParents.{asked_for_death}
 use Rattle.life_intervals.specs.Generator.{last_unit, rows_in_all, table_of}

@@ -1,7 +1,7 @@
 use Rattle.std.proofs.Common.{◌≡◌, ◌+◌, ◌-◌, ◌*◌, ◌<◌, ◌≤◌, ℕ, true, get_or, length, ap, arith, subst, ◌∙◌}
 use Rattle.std.proofs.Math.Nat.{add-mul}
 use Rattle.cohort_sizes.specs.Births.{born_count}
-use Rattle.schema_plan.specs.Dictionaries.{Project}
+use Rattle.schema_facts.specs.Dictionaries.{Project}
 use Rattle.schema_plan.specs.Limits.{IsInLimits}
 use Rattle.life_intervals.specs.CohortParents.{asked_for_death}
 use Rattle.life_intervals.specs.Generator.{generator_of, table_of}

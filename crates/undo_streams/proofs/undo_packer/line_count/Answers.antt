@@ -3,7 +3,7 @@ use Rattle.std.specs.List.{range_with_len}
 use Rattle.std.proofs.lemmas.List.FromFn.{length-range_with_len}
 use Rattle.cohort_sizes.specs.Births.{Births, first_ordinal}
 use Rattle.cohort_sizes.proofs.CohortLemmas.{cohort-within}
-use Rattle.schema_plan.specs.Dictionaries.{Project}
+use Rattle.schema_facts.specs.Dictionaries.{Project}
 use Rattle.life_intervals.specs.Generator.{generator_of, last_unit, table_of}
 use Rattle.life_intervals.specs.Intervals.{changing, dying}
 use Rattle.life_intervals.proofs.CohortParentLemmas.{row_limit}

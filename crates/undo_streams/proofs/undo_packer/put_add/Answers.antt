@@ -1,8 +1,8 @@
 use Rattle.std.proofs.Common.{◌≡◌, ◌+◌, ◌++◌, ◌∷◌, [], ◌<◌, ℕ, List, refl, get_or, ap, arith, decimal, length, length-append, append_assoc, ◌∙◌, codes}
 use Rattle.line_pages.specs.Pieces.{piece_text}
-use Rattle.schema_plan.specs.Dictionaries.{Project}
-use Rattle.schema_plan.specs.Layout.{layout_of}
-use Rattle.schema_plan.specs.TableFacts.{max_line}
+use Rattle.schema_facts.specs.Dictionaries.{Project}
+use Rattle.schema_facts.specs.Layout.{layout_of}
+use Rattle.schema_facts.specs.TableFacts.{max_line}
 use Rattle.row_lines.specs.Runs.{RunLinesOf, line_for}
 use Rattle.row_lines.proofs.FieldLemmas.{length-decimal-le_20}
 use Rattle.undo_streams.specs.Packages.{most_bytes}

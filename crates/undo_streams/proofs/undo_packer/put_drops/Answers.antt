@@ -1,7 +1,7 @@
 use Rattle.std.proofs.Common.{◌≡◌, ◌+◌, ◌++◌, ◌*◌, ◌≤◌, ℕ, List, length, ap, arith, sym, ◌∙◌, length-append, append-nil}
 use Rattle.std.specs.List.{range_with_len}
 use Rattle.std.proofs.lemmas.Grind.{flat_map-append}
-use Rattle.schema_plan.specs.Dictionaries.{Project}
+use Rattle.schema_facts.specs.Dictionaries.{Project}
 use Rattle.life_intervals.proofs.Ranges.{range_with_len-add}
 use Rattle.undo_streams.specs.Packages.{most_bytes}
 use Rattle.undo_streams.specs.Parts.{dropping, dropping_each}

@@ -1,6 +1,6 @@
 use Rattle.std.proofs.Common.{◌≡◌, ◌+◌, ◌*◌, ◌-◌, ◌++◌, ◌<◌, ◌≤◌, ℕ, List, get_or, take, drop, length, ap, arith, append-nil, ◌∙◌}
-use Rattle.schema_plan.specs.Layout.{layout_of}
-use Rattle.schema_plan.specs.TableFacts.{max_line}
+use Rattle.schema_facts.specs.Layout.{layout_of}
+use Rattle.schema_facts.specs.TableFacts.{max_line}
 use Rattle.row_lines.specs.Runs.{RunLinesOf, line_for, listed_text}
 use Rattle.undo_streams.proofs.ListLemmas.{part-one}
 use Rattle.undo_streams.proofs.undo_packer.put_row.Goals as goal

@@ -1,5 +1,5 @@
 use Rattle.std.proofs.Common.{◌≡◌, ◌-◌, ℕ, All, List, true, ap, subst, sym, ◌∙◌}
-use Rattle.schema_plan.specs.Dictionaries.{Project}
+use Rattle.schema_facts.specs.Dictionaries.{Project}
 use Rattle.life_intervals.specs.Generator.{generator_of}
 use Rattle.life_intervals.specs.Simulation.{holds_row, rows_at}
 use Rattle.undo_streams.proofs.UndoLineLemmas.{deleted-held, deleted-rising}

@@ -1,9 +1,9 @@
 use Rattle.std.proofs.Common.{◌≡◌, ◌<◌, ℕ, List, [], eqb-true, length, subst, sym, ap, ◌∙◌}
 use Rattle.std.specs.Prelude.{OnOk}
 use Rattle.cohort_sizes.specs.Births.{cohort_size}
-use Rattle.schema_plan.specs.Dictionaries.{Project}
+use Rattle.schema_facts.specs.Dictionaries.{Project}
 use Rattle.schema_plan.specs.Limits.{IsInLimits}
-use Rattle.schema_plan.specs.References.{Reference}
+use Rattle.schema_facts.specs.References.{Reference}
 use Rattle.life_intervals.specs.Children.{children_of_each}
 use Rattle.life_intervals.specs.CohortKeys.{IsCohort}
 use Rattle.life_intervals.specs.CohortParents.{reference_by}

@@ -2,10 +2,10 @@ use Rattle.std.proofs.Common.{◌≡◌, ℕ, List, length, arith, ap, sym, ◌�
 use Rattle.std.specs.Prelude.{All}
 use Rattle.schema_plan.specs.declared.ready.ReadyKind.TheVariants as kind
 use Rattle.schema_plan.specs.declared.ready.ReadyReference.{ReadyReference}
-use Rattle.schema_plan.specs.Dictionaries.{Project}
-use Rattle.schema_plan.specs.Layout.{layout_of}
+use Rattle.schema_facts.specs.Dictionaries.{Project}
+use Rattle.schema_facts.specs.Layout.{layout_of}
 use Rattle.schema_plan.specs.Ready.{ready_columns}
-use Rattle.schema_plan.specs.References.{Reference, references_of}
+use Rattle.schema_facts.specs.References.{Reference, references_of}
 use Rattle.life_intervals.specs.CohortParents.{IsReferenceOf, reference_by}
 use Rattle.life_intervals.specs.Generator.{table_of}
 use Rattle.life_intervals.proofs.CohortParentLemmas.{length-ready_columns, none_from_columns, ready_is, reference_from_columns}

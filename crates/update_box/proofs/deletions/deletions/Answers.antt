@@ -2,11 +2,11 @@ use Rattle.std.proofs.Common.{◌≡◌, ◌+◌, ◌≤◌, ℕ, Bool, List, le
 use Rattle.std.specs.Prelude.{nat_lt}
 use Rattle.std.proofs.lemmas.Bool.{ltb-false}
 use Rattle.std.proofs.Math.Nat.{mul-le-mul_left}
-use Rattle.schema_plan.specs.Dictionaries.{Project}
-use Rattle.schema_plan.specs.Layout.{layout_of}
+use Rattle.schema_facts.specs.Dictionaries.{Project}
+use Rattle.schema_facts.specs.Layout.{layout_of}
 use Rattle.schema_plan.specs.Limits.{IsInLimits}
-use Rattle.schema_plan.specs.Lineage.{death_cost}
-use Rattle.schema_plan.specs.References.{Reference, cascades_of}
+use Rattle.schema_facts.specs.Lineage.{death_cost}
+use Rattle.schema_facts.specs.References.{Reference, cascades_of}
 use Rattle.life_intervals.specs.Generator.{table_of}
 use Rattle.update_box.specs.Candidates.{ending, endings, ends_at, losing_by}
 use Rattle.update_box.proofs.CandidateLemmas.{AreLookedAt, kept-below, looked-fewer, looked-found}

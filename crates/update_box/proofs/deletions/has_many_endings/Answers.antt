@@ -1,8 +1,8 @@
 use Rattle.std.proofs.Common.{◌≡◌, ◌+◌, ℕ, Option, count_by, length, ap, sym, zero-add, ◌∙◌}
 use Rattle.std.specs.Prelude.{is_some, nat_lt}
-use Rattle.schema_plan.specs.declared.layout.Span.{Span}
-use Rattle.schema_plan.specs.Lineage.{one_if}
-use Rattle.schema_plan.specs.References.{cascades_of}
+use Rattle.schema_facts.specs.declared.layout.Span.{Span}
+use Rattle.schema_facts.specs.Lineage.{one_if}
+use Rattle.schema_facts.specs.References.{cascades_of}
 use Rattle.update_box.specs.Candidates.{is_cascade}
 use Rattle.life_intervals.specs.Generator.{table_of}
 use Rattle.update_box.proofs.DeletionLemmas.{count-cascades, many-with_life}

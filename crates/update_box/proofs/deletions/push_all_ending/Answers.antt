@@ -1,5 +1,5 @@
 use Rattle.std.proofs.Common.{length, arith}
-use Rattle.schema_plan.specs.Dictionaries.{Project}
+use Rattle.schema_facts.specs.Dictionaries.{Project}
 use Rattle.life_intervals.specs.CohortOrders.{do_lives_differ}
 use Rattle.life_intervals.specs.Generator.{table_of}
 use Rattle.update_box.specs.Candidates.{ends_at}

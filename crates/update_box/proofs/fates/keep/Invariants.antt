@@ -1,7 +1,7 @@
 use Rattle.std.proofs.Common.{◌+◌, ◌*◌, ◌≤◌}
 use Rattle.std.proofs.lemmas.List.Filters.{FiltersInPlace}
-use Rattle.schema_plan.specs.Layout.{layout_of}
-use Rattle.schema_plan.specs.Lineage.{death_cost}
+use Rattle.schema_facts.specs.Layout.{layout_of}
+use Rattle.schema_facts.specs.Lineage.{death_cost}
 use Rattle.update_box.specs.Fates.{has_fate}
 use Rattle.update_box.proofs.fates.keep.Given as goal
 

@@ -1,6 +1,6 @@
 use Rattle.std.proofs.Common.{◌≡◌, ◌-◌, ◌*◌, ap, arith, sym, ◌∙◌}
-use Rattle.schema_plan.specs.Layout.{layout_of}
-use Rattle.schema_plan.specs.TableFacts.{max_line}
+use Rattle.schema_facts.specs.Layout.{layout_of}
+use Rattle.schema_facts.specs.TableFacts.{max_line}
 use Rattle.row_lines.specs.Runs.{RunLinesOf, run_text}
 use Rattle.update_box.specs.Parts.{range_text}
 use Rattle.update_box.specs.declared.parts.Content.TheVariants as content

@@ -1,7 +1,7 @@
 use Rattle.std.proofs.Common.{inl, inr, ◌<◌, ℕ, true, false, length, length-set, arith, ap, refl, sym, ◌∙◌}
 use Rattle.std.proofs.lemmas.List.{get_or_default}
 use Rattle.schema_plan.specs.declared.ready.ReadyReference.{ReadyReference}
-use Rattle.schema_plan.specs.Dictionaries.{Project}
+use Rattle.schema_facts.specs.Dictionaries.{Project}
 use Rattle.life_intervals.specs.CohortParents.{IsReferenceOf}
 use Rattle.life_intervals.proofs.CohortParentLemmas.{length-ready_columns, limits_of, none_from_columns, reference_from_columns}
 use Rattle.update_box.proofs.NeededLemmas.{marked-all, marked-no_others, marked-next, marked-none, marked-other}

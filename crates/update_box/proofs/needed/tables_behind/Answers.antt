@@ -1,6 +1,6 @@
 use Rattle.std.proofs.Common.{◌≡◌, ℕ, Bool, true, false, Some, List, Vec, Global, replicate, inl, inr, sym, subst, ap, arith, eq-eqb, eqb-true, ◌∙◌}
 use Rattle.std.proofs.lemmas.Bool.{cases_lt, false≢true}
-use Rattle.schema_plan.specs.Dictionaries.{Project}
+use Rattle.schema_facts.specs.Dictionaries.{Project}
 use Rattle.update_box.specs.Found.{AreNeeded, is_needed}
 use Rattle.update_box.proofs.NeededLemmas.{needed-none}
 use Rattle.update_box.proofs.needed.tables_behind.Goals as goal

@@ -1,6 +1,6 @@
 use Rattle.std.proofs.Common.{◌≡◌, ◌+◌, ◌<◌, ◌≤◌, ◌⊎◌, ℕ, true, false, length}
 use Rattle.std.specs.Prelude.{All}
-use Rattle.schema_plan.specs.References.{references_of}
+use Rattle.schema_facts.specs.References.{references_of}
 use Rattle.life_intervals.specs.Generator.{table_of}
 use Rattle.update_box.specs.Found.{is_needed, refers_to}
 use Rattle.update_box.proofs.needed.tables_behind.Given as goal

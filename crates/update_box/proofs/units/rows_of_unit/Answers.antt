@@ -2,7 +2,7 @@ use Rattle.std.proofs.Common.{◌≡◌, ℕ, Bool, List, length, map, ap, arith
 use Rattle.std.specs.List.{range_with_len}
 use Rattle.std.proofs.lemmas.List.{length-map}
 use Rattle.std.proofs.lemmas.List.FromFn.{length-map-range_with_len}
-use Rattle.schema_plan.specs.Dictionaries.{Project}
+use Rattle.schema_facts.specs.Dictionaries.{Project}
 use Rattle.schema_plan.specs.Limits.{IsInLimits}
 use Rattle.update_box.specs.declared.table_rows.TableRows.{TableRows}
 use Rattle.update_box.specs.Found.{AreNeeded, lists_as_needed}

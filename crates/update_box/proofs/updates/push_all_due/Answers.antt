@@ -1,6 +1,6 @@
 use Rattle.std.proofs.Common.{◌≡◌, ℕ, ◌≤◌, List, length, arith, subst, sym, ap, ◌∙◌}
 use Rattle.cohort_sizes.specs.Births.{Births}
-use Rattle.schema_plan.specs.Dictionaries.{Project}
+use Rattle.schema_facts.specs.Dictionaries.{Project}
 use Rattle.life_intervals.specs.CohortOrders.{do_updates_differ}
 use Rattle.life_intervals.specs.Generator.{table_of}
 use Rattle.update_box.specs.Candidates.{is_due_at, is_young}

@@ -1,11 +1,11 @@
 use Rattle.std.proofs.Common.{◌≡◌, ◌+◌, ◌≤◌, ℕ, Bool, List, Vec, Global, None, is_none, length, ap, arith, subst, sym, ◌∙◌}
 use Rattle.std.proofs.Math.Nat.{mul-le-mul_left}
 use Rattle.schema_model.specs.declared.column.OnDelete.TheVariants.{Null}
-use Rattle.schema_plan.specs.Dictionaries.{Project}
-use Rattle.schema_plan.specs.Layout.{layout_of}
+use Rattle.schema_facts.specs.Dictionaries.{Project}
+use Rattle.schema_facts.specs.Layout.{layout_of}
 use Rattle.schema_plan.specs.Limits.{IsInLimits}
-use Rattle.schema_plan.specs.Lineage.{death_cost, sure_life}
-use Rattle.schema_plan.specs.References.{Reference}
+use Rattle.schema_facts.specs.Lineage.{death_cost, sure_life}
+use Rattle.schema_facts.specs.References.{Reference}
 use Rattle.life_intervals.specs.Generator.{table_of}
 use Rattle.life_intervals.proofs.FoundLemmas.{none-from}
 use Rattle.update_box.specs.Candidates.{due, is_due_at, losing_by, references_on}

@@ -2,11 +2,11 @@ use Rattle.std.proofs.Common.{◌<◌, ℕ, List, Bool, ap, arith, filter, get_o
 use Rattle.std.specs.List.{range_with_len}
 use Rattle.std.proofs.lemmas.List.FromFn.{get_or-range_with_len}
 use Rattle.cohort_sizes.specs.Births.{born_count}
-use Rattle.schema_plan.specs.Dictionaries.{Project}
+use Rattle.schema_facts.specs.Dictionaries.{Project}
 use Rattle.life_intervals.specs.Generator.{generator_of, table_of}
 use Rattle.life_intervals.specs.Intervals.{is_live}
 use Rattle.row_lines.specs.Kept.{kept_by}
-use Rattle.detail_rows.specs.Lines.{parent_place}
+use Rattle.detail_lines.specs.Lines.{parent_place}
 use Rattle.detail_rows.proofs.ParentLemmas.{kept-filter}
 use Rattle.detail_rows.proofs.parent_lines.ParentLines.find_living.Goals as goal
 

@@ -1,5 +1,5 @@
 use Rattle.std.proofs.Common.{◌≡◌, ◌≤◌, ◌+◌, ◌-◌, ◌*◌, ℕ, List, length, take, drop, ap, arith, ◌∙◌}
-use Rattle.schema_plan.specs.Dictionaries.{Project}
+use Rattle.schema_facts.specs.Dictionaries.{Project}
 use Rattle.row_lines.proofs.ListLemmas.{part_length}
 use Rattle.row_lines.proofs.RunTextLemmas.{appended-more, room-more, sizes-more}
 use Rattle.detail_plan.specs.Kept.{Kept}

@@ -1,5 +1,5 @@
 use Rattle.std.proofs.Common.{ℕ, ap, map, ◌∙◌}
-use Rattle.schema_plan.specs.Dictionaries.{Project}
+use Rattle.schema_facts.specs.Dictionaries.{Project}
 use Rattle.life_intervals.specs.Generator.{generator_of}
 use Rattle.life_intervals.specs.Intervals.{is_live}
 use Rattle.detail_rows.proofs.parent_lines.ParentLines.put_lives.Goals as goal

@@ -1,8 +1,8 @@
 use Rattle.std.proofs.Common.{ℕ, List, arith, sym}
-use Rattle.schema_plan.specs.Dictionaries.{Project}
+use Rattle.schema_facts.specs.Dictionaries.{Project}
 use Rattle.row_lines.proofs.RunTextLemmas.{appended-more, room-more, sizes-more}
 use Rattle.detail_plan.specs.Kept.{Kept}
-use Rattle.detail_rows.specs.declared.detail_lines.LineKind.TheVariants.{Whole}
+use Rattle.detail_lines.specs.declared.detail_lines.LineKind.TheVariants.{Whole}
 use Rattle.detail_rows.specs.Packages.{listed_text, living_from}
 use Rattle.detail_rows.proofs.ParentLemmas.{living-more}
 use Rattle.detail_rows.proofs.parent_lines.ParentLines.put_living.Goals as goal

@@ -1,5 +1,5 @@
 use Rattle.std.proofs.Common.{◌≡◌, ◌≤◌, ◌-◌, ◌*◌, ◌++◌, length}
-use Rattle.detail_rows.specs.declared.detail_lines.LineKind.TheVariants.{Whole}
+use Rattle.detail_lines.specs.declared.detail_lines.LineKind.TheVariants.{Whole}
 use Rattle.detail_rows.specs.Packages.{listed_text, living_from}
 use Rattle.detail_rows.proofs.parent_lines.ParentLines.put_living.Given as goal
 

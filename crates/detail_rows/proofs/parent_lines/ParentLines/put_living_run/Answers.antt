@@ -3,13 +3,14 @@ use Rattle.std.specs.List.{range_with_len}
 use Rattle.std.proofs.Math.Nat.{mul-le-mul_right}
 use Rattle.std.proofs.lemmas.List.Elements.{All-filter}
 use Rattle.std.proofs.lemmas.List.FromFn.{get_or-range_with_len, length-range_with_len}
-use Rattle.schema_plan.specs.Dictionaries.{Project}
+use Rattle.schema_facts.specs.Dictionaries.{Project}
 use Rattle.life_intervals.specs.Generator.{generator_of}
 use Rattle.life_intervals.specs.Intervals.{is_live}
 use Rattle.detail_plan.specs.Kept.{Kept}
-use Rattle.detail_rows.specs.declared.detail_lines.LineKind.TheVariants.{Whole}
-use Rattle.detail_rows.specs.Lines.{parent_place}
-use Rattle.detail_rows.specs.Packages.{born_by, listed_text}
+use Rattle.detail_lines.specs.declared.detail_lines.LineKind.TheVariants.{Whole}
+use Rattle.detail_lines.specs.Lines.{parent_place}
+use Rattle.detail_lines.specs.Rows.{born_by}
+use Rattle.detail_rows.specs.Packages.{listed_text}
 use Rattle.detail_rows.proofs.parent_lines.ParentLines.put_living_run.Goals as goal
 
 pub put_run-requires-clause-rows : goal.put_run-requires-clause-rows

@@ -1,7 +1,7 @@
 use Rattle.std.proofs.Common.{◌≡◌, ◌*◌, ◌++◌, ℕ, List, ap, arith, length, ◌∙◌}
-use Rattle.detail_rows.specs.declared.detail_lines.LineKind.{LineKind}
-use Rattle.detail_rows.specs.declared.parent_row.ParentRows.{ParentRows}
-use Rattle.detail_rows.specs.Made.{LinesOver, made_rows}
+use Rattle.detail_lines.specs.declared.detail_lines.LineKind.{LineKind}
+use Rattle.detail_lines.specs.declared.parent_row.ParentRows.{ParentRows}
+use Rattle.detail_lines.specs.Made.{LinesOver, made_rows}
 use Rattle.detail_rows.specs.Packages.{listed_text}
 use Rattle.detail_rows.proofs.ParentLemmas.{rows-listed}
 use Rattle.detail_rows.proofs.parent_lines.ParentLines.put_told.Goals as goal

@@ -1,7 +1,7 @@
 use Rattle.std.proofs.Common.{◌≡◌, ℤ, Option, slice_index_or, ap, subst, sym, ◌∙◌}
 use Rattle.std.specs.Prelude.{IfSome}
 use Rattle.schema_plan.specs.declared.ready.ReadyColumn.{ReadyColumn}
-use Rattle.schema_plan.specs.Layout.{KindLayout, column_at, layout_of}
+use Rattle.schema_facts.specs.Layout.{KindLayout, column_at, layout_of}
 use Rattle.schema_plan.specs.Ready.{ready_column}
 use Rattle.draw_values.specs.declared.values.RowAt.{RowAt}
 use Rattle.draw_values.specs.CohortValues.{AreValuesOf, IsDayOf, ValuesOf, facts_for, row_for, table_for}

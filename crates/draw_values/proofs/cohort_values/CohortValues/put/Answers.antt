@@ -1,6 +1,6 @@
 use Rattle.std.proofs.Common.{◌≡◌, ℕ, ◌++◌, List, option_map, ap, subst, sym, ◌∙◌, arith}
 use Rattle.row_text.specs.Fields.{escaped_text as written_text}
-use Rattle.schema_plan.specs.Layout.{layout_of}
+use Rattle.schema_facts.specs.Layout.{layout_of}
 use Rattle.draw_values.specs.declared.values.RowAt.{RowAt}
 use Rattle.draw_values.specs.CohortValues.{AreValuesOf, ValuesOf, row_for, value_for}
 use Rattle.draw_values.specs.ReadyValues.{HasDay, ready_field, ready_kind_size, row_draws}

@@ -1,7 +1,7 @@
 use Rattle.std.proofs.Common.{◌≡◌, ◌≤◌, ℕ, true, [], get_or, length, map, refl, ap, subst, sym, ◌∙◌, arith}
 use Rattle.line_pages.specs.Pieces.{piece_text}
 use Rattle.schema_plan.specs.declared.ready.ReadyColumn.{ReadyColumn}
-use Rattle.schema_plan.specs.Layout.{column_at, layout_of, table_at}
+use Rattle.schema_facts.specs.Layout.{column_at, layout_of, table_at}
 use Rattle.schema_plan.specs.Limits.{IsTableInLimits}
 use Rattle.schema_plan.specs.Ready.{ready_columns}
 use Rattle.draw_values.specs.Runs.{DrawnColumnOf, IsReadyDrawn, RunColumnOf, drawn_field, drawn_of, is_short_alone, ready_at, run_row, short_value, with_behind}

@@ -6,7 +6,7 @@ use Rattle.schema_plan.specs.declared.ready.ReadyColumn.{ReadyColumn}
 use Rattle.schema_plan.specs.declared.ready.ReadyKind.{ReadyKind}
 use Rattle.schema_plan.specs.declared.ready.ReadyKind.TheVariants.{Case}
 use Rattle.schema_plan.specs.declared.ready.ReadyLeaf.{ReadyLeaf}
-use Rattle.schema_plan.specs.Layout.{layout_of, table_at}
+use Rattle.schema_facts.specs.Layout.{layout_of, table_at}
 use Rattle.schema_plan.specs.Limits.{IsTableInLimits}
 use Rattle.schema_plan.specs.Ready.{ready_columns}
 use Rattle.draw_values.specs.Cases.{case_text}

@@ -1,6 +1,6 @@
 use Rattle.std.proofs.Common.{◌≡◌, ◌<◌, ◌^◌, subst, sym, arith}
 use Rattle.schema_plan.specs.declared.ready.ReadyColumn.{ReadyColumn}
-use Rattle.schema_plan.specs.Layout.{column_at, layout_of, table_at}
+use Rattle.schema_facts.specs.Layout.{column_at, layout_of, table_at}
 use Rattle.draw_values.specs.ReadyValues.{chooser_of}
 use Rattle.draw_values.specs.Runs.{IsReadyDrawn, ready_at}
 use Rattle.draw_values.proofs.ColumnLemmas.{ready_column-at}

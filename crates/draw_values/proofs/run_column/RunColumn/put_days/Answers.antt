@@ -1,7 +1,7 @@
 use Rattle.std.proofs.Common.{◌≡◌, ℕ, Some, pos, get_or, ap, subst, sym, ◌∙◌}
 use Rattle.philox_seeds.specs.SeedTree.{draw}
 use Rattle.schema_plan.specs.declared.ready.ReadyColumn.{ReadyColumn}
-use Rattle.schema_plan.specs.Layout.{column_at, layout_of, table_at}
+use Rattle.schema_facts.specs.Layout.{column_at, layout_of, table_at}
 use Rattle.schema_plan.specs.Limits.{IsTableInLimits}
 use Rattle.draw_values.specs.ReadyValues.{ready_own_day}
 use Rattle.draw_values.specs.Runs.{IsReadyDrawn, RunColumnOf, ready_at, run_row, run_seed}

@@ -6,7 +6,7 @@ use Rattle.schema_plan.specs.declared.ready.ReadyColumn.{ReadyColumn}
 use Rattle.schema_plan.specs.declared.ready.ReadyKind.{ReadyKind}
 use Rattle.schema_plan.specs.declared.ready.ReadyKind.TheVariants.{Drawn}
 use Rattle.schema_plan.specs.declared.ready.ReadyLeaf.{ReadyLeaf}
-use Rattle.schema_plan.specs.Layout.{column_at, layout_of, table_at}
+use Rattle.schema_facts.specs.Layout.{column_at, layout_of, table_at}
 use Rattle.schema_plan.specs.Limits.{IsTableInLimits}
 use Rattle.schema_plan.specs.Ready.{ready_columns}
 use Rattle.draw_values.specs.declared.items.ItemizedField.{ItemizedField}

@@ -1,11 +1,11 @@
 use Rattle.std.proofs.Common.{◌≡◌, ◌≤◌, ◌+◌, ◌*◌, ℕ, Option, None, List, get_or, length, is_none, filter, sum_by, ap, arith, subst, sym, ◌∙◌}
 use Rattle.schema_plan.specs.declared.ready.ReadyReference.{ReadyReference}
-use Rattle.schema_plan.specs.Dictionaries.{Project}
-use Rattle.schema_plan.specs.Layout.{layout_of}
+use Rattle.schema_facts.specs.Dictionaries.{Project}
+use Rattle.schema_facts.specs.Layout.{layout_of}
 use Rattle.schema_plan.specs.Limits.{IsInLimits}
-use Rattle.schema_plan.specs.Lineage.{choice_cost, death_cost, one_if, sure_life}
+use Rattle.schema_facts.specs.Lineage.{choice_cost, death_cost, one_if, sure_life}
 use Rattle.schema_plan.specs.Ready.{ready_columns}
-use Rattle.schema_plan.specs.References.{Reference}
+use Rattle.schema_facts.specs.References.{Reference}
 use Rattle.life_intervals.specs.declared.lives.Survival.TheVariants.{Sure}
 use Rattle.life_intervals.specs.CohortKeys.{CohortOf}
 use Rattle.life_intervals.specs.CohortLives.{survival_at}

@@ -1,6 +1,6 @@
 use Rattle.std.proofs.Common.{◌<◌, ap, arith, subst, sym}
 use Rattle.cohort_sizes.specs.Births.{birth}
-use Rattle.schema_plan.specs.Dictionaries.{Project}
+use Rattle.schema_facts.specs.Dictionaries.{Project}
 use Rattle.cohort_sizes.proofs.CohortLemmas.{birth-later, birth-le, born_count-le}
 use Rattle.life_intervals.specs.Generator.{last_unit, rows_in_all, table_of}
 use Rattle.life_intervals.proofs.rows.Rows.birth_by.Goals as goal

@@ -1,8 +1,8 @@
 use Rattle.std.proofs.Common.{◌≡◌, ap, arith, ◌∙◌}
 use Rattle.id_permutation.specs.Order.{Arrangement, place_in}
-use Rattle.schema_plan.specs.declared.layout.Keys.{Keys}
+use Rattle.schema_facts.specs.declared.layout.Keys.{Keys}
 use Rattle.cohort_sizes.specs.Births.{first_ordinal}
-use Rattle.schema_plan.specs.Dictionaries.{Project}
+use Rattle.schema_facts.specs.Dictionaries.{Project}
 use Rattle.life_intervals.specs.Generator.{generator_of, table_of}
 use Rattle.life_intervals.specs.Keys.{place_in_cohort}
 use Rattle.life_intervals.proofs.FoundLemmas.{found-key}

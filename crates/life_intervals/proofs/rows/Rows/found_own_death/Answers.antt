@@ -1,6 +1,6 @@
 use Rattle.std.proofs.Common.{◌≡◌, ◌+◌, Some, option_map, ap, ap₂, sym, ◌∙◌}
 use Rattle.id_permutation.specs.Order.{Arrangement, place_in}
-use Rattle.schema_plan.specs.Dictionaries.{Project}
+use Rattle.schema_facts.specs.Dictionaries.{Project}
 use Rattle.life_intervals.specs.CohortOrders.{life_order}
 use Rattle.life_intervals.specs.Generator.{table_of}
 use Rattle.life_intervals.specs.Rows.{life_by}

@@ -1,11 +1,11 @@
 use Rattle.std.proofs.Common.{◌≡◌, ◌<◌, ◌≤◌, ℕ, Option, length, Some, None, ap, arith, subst, sym, ◌∙◌}
 use Rattle.std.specs.Prelude.{IfSome}
 use Rattle.schema_plan.specs.declared.ready.ReadyColumn.{ReadyColumn}
-use Rattle.schema_plan.specs.Dictionaries.{Project}
-use Rattle.schema_plan.specs.Layout.{layout_of}
+use Rattle.schema_facts.specs.Dictionaries.{Project}
+use Rattle.schema_facts.specs.Layout.{layout_of}
 use Rattle.schema_plan.specs.Limits.{IsInLimits}
 use Rattle.schema_plan.specs.Ready.{ready_columns}
-use Rattle.schema_plan.specs.References.{Reference, reference_at}
+use Rattle.schema_facts.specs.References.{Reference, reference_at}
 use Rattle.life_intervals.specs.declared.found.FoundRow.{FoundRow}
 use Rattle.life_intervals.specs.CohortParents.{IsReferenceOf, held_cost, reference_by}
 use Rattle.life_intervals.specs.Found.{IsFound}

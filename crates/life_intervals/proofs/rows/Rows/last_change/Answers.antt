@@ -1,5 +1,5 @@
 use Rattle.std.proofs.Common.{◌<◌, ap, arith, subst, sym}
-use Rattle.schema_plan.specs.Dictionaries.{Project}
+use Rattle.schema_facts.specs.Dictionaries.{Project}
 use Rattle.cohort_sizes.proofs.CohortLemmas.{born_count-le}
 use Rattle.life_intervals.specs.Found.{IsFound}
 use Rattle.life_intervals.specs.Generator.{generator_of, last_unit, rows_in_all, table_of}

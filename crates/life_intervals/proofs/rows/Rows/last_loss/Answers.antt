@@ -1,11 +1,11 @@
 use Rattle.std.proofs.Common.{◌≡◌, ◌≤◌, ℕ, Option, List, filter, length, map, sum_by, ap, ap₂, arith, subst, sym, ◌∙◌}
 use Rattle.schema_plan.specs.declared.ready.ReadyColumn.{ReadyColumn}
 use Rattle.schema_plan.specs.declared.ready.ReadyReference.{ReadyReference}
-use Rattle.schema_plan.specs.Dictionaries.{Project}
-use Rattle.schema_plan.specs.Layout.{layout_of}
+use Rattle.schema_facts.specs.Dictionaries.{Project}
+use Rattle.schema_facts.specs.Layout.{layout_of}
 use Rattle.schema_plan.specs.Limits.{IsInLimits}
 use Rattle.schema_plan.specs.Ready.{ready_columns}
-use Rattle.schema_plan.specs.References.{Reference, references_of}
+use Rattle.schema_facts.specs.References.{Reference, references_of}
 use Rattle.life_intervals.specs.Changes.{last_change, later_change}
 use Rattle.life_intervals.specs.CohortKeys.{CohortOf}
 use Rattle.life_intervals.specs.CohortParents.{loss_in}

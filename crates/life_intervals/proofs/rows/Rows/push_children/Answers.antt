@@ -4,13 +4,13 @@ use Rattle.std.proofs.lemmas.Nat.{mul-le}
 use Rattle.philox_seeds.specs.SeedTree.{deal_seed}
 use Rattle.id_permutation.specs.Order.{Arrangement, order_steps}
 use Rattle.schema_plan.specs.declared.ready.ReadyReference.{ReadyReference}
-use Rattle.schema_plan.specs.Layout.{layout_of}
-use Rattle.schema_plan.specs.Lineage.{one_if}
+use Rattle.schema_facts.specs.Layout.{layout_of}
+use Rattle.schema_facts.specs.Lineage.{one_if}
 use Rattle.std.specs.Prelude.{All, OnErr, Result, Ok, Err}
 use Rattle.std.specs.List.{flat_map}
 use Rattle.std.proofs.lemmas.List.{take_all}
 use Rattle.cohort_sizes.specs.Births.{cohort_size}
-use Rattle.schema_plan.specs.Dictionaries.{Project}
+use Rattle.schema_facts.specs.Dictionaries.{Project}
 use Rattle.schema_plan.specs.Limits.{IsInLimits}
 use Rattle.life_intervals.specs.declared.window.CandidateWindow.{CandidateWindow}
 use Rattle.life_intervals.specs.Blocks.{places_of_parent}

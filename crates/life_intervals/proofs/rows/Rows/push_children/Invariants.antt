@@ -1,6 +1,6 @@
 use Rattle.std.proofs.Common.{◌≡◌, ◌≤◌, ◌+◌, ◌*◌, ◌++◌, length, take}
 use Rattle.std.specs.List.{flat_map}
-use Rattle.schema_plan.specs.Lineage.{one_if}
+use Rattle.schema_facts.specs.Lineage.{one_if}
 use Rattle.life_intervals.specs.Blocks.{places_of_parent}
 use Rattle.life_intervals.proofs.rows.Rows.push_children.Given as goal
 

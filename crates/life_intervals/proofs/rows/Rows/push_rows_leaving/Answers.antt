@@ -1,8 +1,8 @@
 use Rattle.std.proofs.Common.{◌≡◌, ◌<◌, ◌++◌, ◌%◌, ℕ, List, ap, arith, subst, sym, ◌∙◌}
 use Rattle.std.specs.Prelude.{◌==◌, All}
 use Rattle.cohort_sizes.specs.Births.{cohort_size}
-use Rattle.schema_plan.specs.Dictionaries.{Project}
-use Rattle.schema_plan.specs.Lineage.{one_if}
+use Rattle.schema_facts.specs.Dictionaries.{Project}
+use Rattle.schema_facts.specs.Lineage.{one_if}
 use Rattle.life_intervals.specs.CohortOrders.{is_drawn}
 use Rattle.life_intervals.specs.FoundAt.{places_leaving, row_at_place, rows_leaving}
 use Rattle.life_intervals.specs.Generator.{table_of}

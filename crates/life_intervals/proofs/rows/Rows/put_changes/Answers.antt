@@ -1,5 +1,5 @@
 use Rattle.std.proofs.Common.{◌≡◌, ◌≤◌, ◌<◌, ◌+◌, ◌⊎◌, ℕ, get_or, length, arith, subst, sym}
-use Rattle.schema_plan.specs.Dictionaries.{Project}
+use Rattle.schema_facts.specs.Dictionaries.{Project}
 use Rattle.schema_plan.specs.Limits.{IsInLimits}
 use Rattle.life_intervals.specs.Changes.{change_span}
 use Rattle.life_intervals.specs.CohortParents.{asked_for_change}

@@ -3,12 +3,12 @@ use Rattle.std.proofs.lemmas.List.{get_or-map, length-map}
 use Rattle.cohort_sizes.specs.Births.{first_ordinal}
 use Rattle.schema_plan.specs.declared.ready.ReadyColumn.{ReadyColumn}
 use Rattle.schema_plan.specs.declared.ready.ReadyReference.{ReadyReference}
-use Rattle.schema_plan.specs.Dictionaries.{Project}
-use Rattle.schema_plan.specs.Layout.{layout_of}
+use Rattle.schema_facts.specs.Dictionaries.{Project}
+use Rattle.schema_facts.specs.Layout.{layout_of}
 use Rattle.schema_plan.specs.Limits.{IsInLimits}
-use Rattle.schema_plan.specs.Lineage.{choice_cost, death_cost}
+use Rattle.schema_facts.specs.Lineage.{choice_cost, death_cost}
 use Rattle.schema_plan.specs.Ready.{ready_columns}
-use Rattle.schema_plan.specs.References.{Reference, references_of}
+use Rattle.schema_facts.specs.References.{Reference, references_of}
 use Rattle.life_intervals.specs.declared.found.FoundRow.{FoundRow}
 use Rattle.life_intervals.specs.Changes.{last_change, later_change}
 use Rattle.life_intervals.specs.CohortKeys.{CohortOf}

@@ -1,5 +1,5 @@
 use Rattle.std.proofs.Common.{◌≡◌, ◌≤◌, ◌+◌, ◌-◌, ◌*◌, length, map, take}
-use Rattle.schema_plan.specs.Lineage.{choice_cost}
+use Rattle.schema_facts.specs.Lineage.{choice_cost}
 use Rattle.life_intervals.specs.CohortParents.{reference_by}
 use Rattle.life_intervals.specs.Generator.{generator_of, last_unit}
 use Rattle.life_intervals.specs.Intervals.{parent_of}

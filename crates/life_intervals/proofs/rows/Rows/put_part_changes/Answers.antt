@@ -1,6 +1,6 @@
 use Rattle.std.proofs.Common.{◌≡◌, ◌≤◌, false, get_or, ap, arith, sym, ◌∙◌}
 use Rattle.std.specs.Prelude.{All}
-use Rattle.schema_plan.specs.Dictionaries.{Project}
+use Rattle.schema_facts.specs.Dictionaries.{Project}
 use Rattle.life_intervals.specs.Changes.{has_nullings}
 use Rattle.life_intervals.specs.CohortOrders.{due_for}
 use Rattle.life_intervals.specs.Generator.{generator_of, last_unit, table_of}

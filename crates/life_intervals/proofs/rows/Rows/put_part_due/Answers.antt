@@ -1,7 +1,7 @@
 use Rattle.std.proofs.Common.{◌≡◌, ◌≤◌, ◌+◌, ◌%◌, ℕ, Some, get_or, map, ap, arith, sym, ◌∙◌}
 use Rattle.std.specs.Prelude.{All}
 use Rattle.std.proofs.lemmas.Simd.{map-map}
-use Rattle.schema_plan.specs.Dictionaries.{Project}
+use Rattle.schema_facts.specs.Dictionaries.{Project}
 use Rattle.life_intervals.specs.declared.orders.Purpose.TheVariants.{Updates}
 use Rattle.life_intervals.specs.Changes.{last_due}
 use Rattle.life_intervals.specs.CohortOrders.{due_for, place_for}

@@ -3,8 +3,8 @@ use Rattle.std.specs.Prelude.{All}
 use Rattle.std.proofs.lemmas.Simd.{map-map}
 use Rattle.std.proofs.lemmas.List.Elements.{All-map}
 use Rattle.cohort_sizes.specs.Births.{first_ordinal}
-use Rattle.schema_plan.specs.declared.layout.Keys as layout
-use Rattle.schema_plan.specs.Dictionaries.{Project}
+use Rattle.schema_facts.specs.declared.layout.Keys as layout
+use Rattle.schema_facts.specs.Dictionaries.{Project}
 use Rattle.schema_plan.specs.Limits.{IsInLimits}
 use Rattle.life_intervals.specs.declared.orders.Purpose.TheVariants.{Keys}
 use Rattle.life_intervals.specs.CohortOrders.{place_for}

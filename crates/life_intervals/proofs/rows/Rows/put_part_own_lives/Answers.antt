@@ -3,9 +3,9 @@ use Rattle.std.specs.Prelude.{nat_lt}
 use Rattle.std.proofs.lemmas.List.{length-set}
 use Rattle.id_permutation.specs.Order.{Arrangement, order_steps, place_in}
 use Rattle.cohort_sizes.specs.Births.{LiesIn, first_ordinal}
-use Rattle.schema_plan.specs.Lineage.{one_if}
-use Rattle.schema_plan.specs.declared.layout.Span.{Span}
-use Rattle.schema_plan.specs.Dictionaries.{Project}
+use Rattle.schema_facts.specs.Lineage.{one_if}
+use Rattle.schema_facts.specs.declared.layout.Span.{Span}
+use Rattle.schema_facts.specs.Dictionaries.{Project}
 use Rattle.life_intervals.specs.declared.orders.Purpose.TheVariants.{Lives}
 use Rattle.life_intervals.specs.CohortOrders.{do_lives_differ, place_for}
 use Rattle.life_intervals.specs.Generator.{generator_of, last_unit, table_of}

@@ -4,7 +4,7 @@ use Rattle.std.proofs.lemmas.List.Elements.{All-map}
 use Rattle.std.proofs.lemmas.Simd.{map-map}
 use Rattle.id_permutation.specs.Order.{Arrangement, place_in}
 use Rattle.cohort_sizes.specs.Births.{born_count}
-use Rattle.schema_plan.specs.Dictionaries.{Project}
+use Rattle.schema_facts.specs.Dictionaries.{Project}
 use Rattle.schema_plan.specs.Limits.{IsInLimits}
 use Rattle.life_intervals.specs.declared.orders.Purpose.TheVariants.{Parents}
 use Rattle.life_intervals.specs.declared.window.CandidateWindow.{CandidateWindow}

@@ -8,10 +8,10 @@ use Rattle.cohort_sizes.specs.Births.{Births, cohort_size, first_ordinal}
 use Rattle.cohort_sizes.proofs.CohortLemmas.{cohort-within}
 use Rattle.schema_plan.specs.Limits.{IsInLimits}
 use Rattle.life_intervals.proofs.CohortParentLemmas.{row_limit}
-use Rattle.schema_plan.specs.Dictionaries.{Project}
+use Rattle.schema_facts.specs.Dictionaries.{Project}
 use Rattle.life_intervals.specs.CohortOrders.{is_drawn, order_for}
 use Rattle.life_intervals.specs.Generator.{last_unit, table_of}
-use Rattle.schema_plan.specs.Lineage.{one_if}
+use Rattle.schema_facts.specs.Lineage.{one_if}
 use Rattle.life_intervals.proofs.AppendLemmas.{steps-below}
 use Rattle.life_intervals.proofs.PartLemmas.{steps_for}
 use Rattle.life_intervals.proofs.rows.Rows.put_rows_at.Goals as goal

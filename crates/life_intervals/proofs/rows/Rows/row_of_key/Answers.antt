@@ -1,9 +1,9 @@
 use Rattle.std.proofs.Common.{◌≡◌, ◌≢◌, ◌<◌, ◌≤◌, ◌+◌, ◌-◌, ℕ, Some, refl, ap, arith, sym, ◌∙◌}
 use Rattle.id_permutation.specs.Order.{Arrangement, place_in}
-use Rattle.schema_plan.specs.declared.layout.Keys.{Keys}
-use Rattle.schema_plan.specs.Dictionaries.{Project}
+use Rattle.schema_facts.specs.declared.layout.Keys.{Keys}
+use Rattle.schema_facts.specs.Dictionaries.{Project}
 use Rattle.cohort_sizes.specs.Births.{birth, born_count, cohort_size, first_ordinal}
-use Rattle.schema_plan.specs.Layout.{table_at}
+use Rattle.schema_facts.specs.Layout.{table_at}
 use Rattle.life_intervals.specs.Generator.{Generator, generator_of, last_unit, rows_in_all, table_of}
 use Rattle.life_intervals.specs.Keys.{key_of, place_in_cohort, OrdersCohorts}
 use Rattle.cohort_sizes.proofs.CohortLemmas.{cohort-within}

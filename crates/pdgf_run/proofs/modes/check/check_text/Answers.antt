@@ -1,6 +1,6 @@
 use Rattle.std.proofs.Common.{◌≡◌, ◌+◌, ◌++◌, List, [], ℕ, ap, refl, sym, ◌∙◌}
 use Rattle.life_intervals.proofs.Ranges.{flat_map-range_with_len_more}
-use Rattle.schema_plan.specs.Dictionaries.{Project}
+use Rattle.schema_facts.specs.Dictionaries.{Project}
 use Rattle.pdgf_run.specs.modes.Check.{check_line, check_lines}
 use Rattle.pdgf_run.proofs.modes.check.check_text.Goals as goal
 

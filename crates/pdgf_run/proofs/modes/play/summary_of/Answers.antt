@@ -2,7 +2,7 @@ use Rattle.std.proofs.Common.{◌≡◌, ◌+◌, ◌++◌, List, [], ℕ, lengt
 use Rattle.life_intervals.specs.Generator.{generator_of, last_unit}
 use Rattle.life_intervals.specs.Simulation.{rows_at}
 use Rattle.life_intervals.proofs.Ranges.{flat_map-range_with_len_more}
-use Rattle.schema_plan.specs.Dictionaries.{Project}
+use Rattle.schema_facts.specs.Dictionaries.{Project}
 use Rattle.pdgf_run.specs.modes.Play.{play_line, play_lines}
 use Rattle.pdgf_run.proofs.modes.play.summary_of.Goals as goal
 

@@ -1,4 +1,4 @@
-use Rattle.schema_plan.specs.Layout.{layout_of}
+use Rattle.schema_facts.specs.Layout.{layout_of}
 use Rattle.pdgf_run.specs.modes.Revert.{revert_of, tables_reverted}
 use Rattle.pdgf_run.proofs.ApplyLemmas.{names_told, replayed_asked}
 use Rattle.pdgf_run.proofs.modes.revert.plan_revert.Goals as goal

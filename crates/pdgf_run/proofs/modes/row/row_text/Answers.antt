@@ -3,7 +3,7 @@ use Rattle.std.specs.Prelude.{IfSome, IsSome, is_some, not}
 use Rattle.std.specs.Option.{option_map}
 use Rattle.std.proofs.lemmas.Bool.{ne_eqb}
 use Rattle.std.proofs.lemmas.Result.{err_from_is_err_and}
-use Rattle.schema_plan.specs.Dictionaries.{Project}
+use Rattle.schema_facts.specs.Dictionaries.{Project}
 use Rattle.life_intervals.specs.Generator.{generator_of, last_unit, rows_in_all}
 use Rattle.life_intervals.specs.Keys.{key_of}
 use Rattle.row_lines.specs.Reports.{row_report, row_with_key}

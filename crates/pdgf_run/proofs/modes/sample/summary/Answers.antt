@@ -1,7 +1,7 @@
 use Rattle.std.proofs.Common.{◌≡◌, ◌++◌, ℕ, List, ap, arith, flat_map, subst, sym, ◌∙◌}
 use Rattle.std.specs.List.{range_with_len}
 use Rattle.life_intervals.proofs.Ranges.{flat_map-range_with_len_more}
-use Rattle.schema_plan.specs.Dictionaries.{Project}
+use Rattle.schema_facts.specs.Dictionaries.{Project}
 use Rattle.pdgf_run.specs.modes.Sample.{IsLaterText, table_line}
 use Rattle.pdgf_run.proofs.SampleLemmas.{sums-next}
 use Rattle.pdgf_run.proofs.modes.sample.summary.Goals as goal

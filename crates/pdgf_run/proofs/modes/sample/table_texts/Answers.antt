@@ -3,7 +3,7 @@ use Rattle.std.specs.List.{range_with_len}
 use Rattle.life_intervals.specs.Generator.{generator_of, last_unit}
 use Rattle.pd_outside.specs.Files.{File, file_at}
 use Rattle.row_lines.specs.Lines.{table_text}
-use Rattle.schema_plan.specs.Dictionaries.{Project}
+use Rattle.schema_facts.specs.Dictionaries.{Project}
 use Rattle.update_box.specs.TextLaws.{unit_streams}
 use Rattle.update_box.specs.declared.parts.Content.TheVariants.{Deleted, Inserted, Updated}
 use Rattle.pdgf_run.specs.modes.Sample.{later_units, lines_at, text_and_changes}

@@ -1,6 +1,6 @@
 use Rattle.std.proofs.Common.{◌≡◌, ◌<◌, ◌+◌, ◌-◌, ℕ, List, [], ◌∷◌, ◌++◌, Vec, Global, get_or, length, map, ap, arith, refl, sym, ◌∙◌}
 use Rattle.std.proofs.lemmas.List.FromFn.{get_or-range_with_len, length-range_with_len}
-use Rattle.schema_plan.specs.Dictionaries.{Project}
+use Rattle.schema_facts.specs.Dictionaries.{Project}
 use Rattle.undo_streams.specs.Places.{places_of}
 use Rattle.update_box.specs.Packages.{chosen_places}
 use Rattle.update_box.specs.Prepared.{IsAmong}

@@ -1,4 +1,4 @@
-use Rattle.schema_plan.specs.Layout.{layout_of}
+use Rattle.schema_facts.specs.Layout.{layout_of}
 use Rattle.pdgf_run.proofs.SqlLemmas.{pages-more}
 use Rattle.pdgf_run.proofs.modes.unit.stated_unit.Goals as goal
 

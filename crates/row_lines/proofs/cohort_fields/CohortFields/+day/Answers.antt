@@ -6,15 +6,15 @@ use Rattle.schema_plan.specs.declared.ready.ReadyAfter.{ReadyAfter}
 use Rattle.schema_plan.specs.declared.ready.ReadyColumn.{ReadyColumn}
 use Rattle.schema_plan.specs.declared.ready.ReadyKind.TheVariants.{Lookup}
 use Rattle.schema_plan.specs.declared.ready.ReadyLookup.{ReadyLookup}
-use Rattle.schema_plan.specs.declared.days.Days.{Days}
-use Rattle.schema_plan.specs.ColumnFacts.{field_cost, field_facts}
-use Rattle.schema_plan.specs.Ends.{IsBetween}
-use Rattle.schema_plan.specs.Layout.{KindLayout, after_kind, column_at, layout_of, lookup_kind}
+use Rattle.schema_facts.specs.declared.days.Days.{Days}
+use Rattle.schema_facts.specs.ColumnFacts.{field_cost, field_facts}
+use Rattle.schema_facts.specs.Ends.{IsBetween}
+use Rattle.schema_facts.specs.Layout.{KindLayout, after_kind, column_at, layout_of, lookup_kind}
 use Rattle.draw_values.specs.CohortValues.{IsDayOf, ValuesOf, is_null_for, row_for}
 use Rattle.draw_values.specs.Values.{Draws, chosen, draws_at, is_null}
 use Rattle.life_intervals.specs.Generator.{generator_of}
 use Rattle.life_intervals.specs.Rows.{Row}
-use Rattle.schema_plan.proofs.FieldFactsLemmas.{cost-after, days-lookup}
+use Rattle.schema_facts.proofs.FieldFactsLemmas.{cost-after, days-lookup}
 use Rattle.row_lines.specs.declared.derived.ParentRow.{ParentRow}
 use Rattle.row_lines.specs.CohortLines.{AreFieldsOf, LinesOf, layout_for, ordinal_of, row_changed, values_at}
 use Rattle.row_lines.specs.Derived.{columns_before, day_in}

@@ -2,13 +2,13 @@ use Rattle.std.proofs.Common.{◌≡◌, ◌<◌, ◌≤◌, ◌+◌, ℕ, List,
 use Rattle.std.specs.Prelude.{IfSome}
 use Rattle.std.proofs.lemmas.List.Sums.{sum_by-take-le, sum_by_more}
 use Rattle.cohort_sizes.specs.Births.{cohort_size}
-use Rattle.schema_plan.specs.declared.numbers.Numbers.{Numbers}
+use Rattle.schema_facts.specs.declared.numbers.Numbers.{Numbers}
 use Rattle.schema_plan.specs.declared.ready.ReadyColumn.{ReadyColumn}
 use Rattle.schema_plan.specs.declared.ready.ReadyKind.TheVariants.{Lookup, Product, Sum}
 use Rattle.schema_plan.specs.declared.ready.ReadyLookup.{ReadyLookup}
-use Rattle.schema_plan.specs.ColumnFacts.{field_cost, field_facts}
-use Rattle.schema_plan.specs.Layout.{KindLayout, column_at, layout_of, lookup_kind, product_kind, sum_kind}
-use Rattle.schema_plan.proofs.FieldFactsLemmas.{numbers-lookup}
+use Rattle.schema_facts.specs.ColumnFacts.{field_cost, field_facts}
+use Rattle.schema_facts.specs.Layout.{KindLayout, column_at, layout_of, lookup_kind, product_kind, sum_kind}
+use Rattle.schema_facts.proofs.FieldFactsLemmas.{numbers-lookup}
 use Rattle.draw_values.specs.declared.leaf_numbers.Number.{Number}
 use Rattle.draw_values.specs.CohortValues.{IsNumberOf, ValuesOf, is_null_for}
 use Rattle.draw_values.specs.Values.{is_null}

@@ -1,6 +1,6 @@
 use Rattle.std.proofs.Common.{◌≤◌, ◌+◌, ◌*◌, sum_by, take}
-use Rattle.schema_plan.specs.ColumnFacts.{field_cost}
-use Rattle.schema_plan.specs.Layout.{layout_of}
+use Rattle.schema_facts.specs.ColumnFacts.{field_cost}
+use Rattle.schema_facts.specs.Layout.{layout_of}
 use Rattle.row_lines.specs.Derived.{columns_before}
 use Rattle.row_lines.proofs.TotalLemmas.{IsSoFar}
 use Rattle.row_lines.proofs.cohort_fields.CohortFields.+numbers.Given as goal

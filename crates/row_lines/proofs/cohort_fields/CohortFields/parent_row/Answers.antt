@@ -3,8 +3,8 @@ use Rattle.cohort_sizes.specs.Births.{LiesIn, birth, born_count, cohort_size, fi
 use Rattle.cohort_sizes.proofs.CohortLemmas.{born_count-le}
 use Rattle.schema_plan.specs.declared.ready.ReadyColumn.{ReadyColumn}
 use Rattle.schema_plan.specs.declared.ready.ReadyReference.{ReadyReference}
-use Rattle.schema_plan.specs.Dictionaries.{Project}
-use Rattle.schema_plan.specs.Layout.{column_at, layout_of}
+use Rattle.schema_facts.specs.Dictionaries.{Project}
+use Rattle.schema_facts.specs.Layout.{column_at, layout_of}
 use Rattle.life_intervals.specs.CohortParents.{IsReferenceOf, reference_by}
 use Rattle.life_intervals.specs.Generator.{last_unit, rows_in_all, table_of}
 use Rattle.row_lines.specs.CohortLines.{AreFieldsOf, LinesOf, layout_for, ordinal_of, parent_for, values_at}

@@ -1,6 +1,6 @@
 use Rattle.std.proofs.Common.{◌≡◌, ◌<◌, ◌^◌, ◌++◌, ℕ, List, ap, sym, ◌∙◌, arith, decimal, is_some, length}
 use Rattle.row_text.specs.Fields.{field_text}
-use Rattle.schema_plan.specs.Layout.{column_at, key_kind, layout_of}
+use Rattle.schema_facts.specs.Layout.{column_at, key_kind, layout_of}
 use Rattle.schema_plan.specs.declared.ready.ReadyColumn.{ReadyColumn}
 use Rattle.schema_plan.specs.declared.ready.ReadyKind.TheVariants.{Key, Reference}
 use Rattle.schema_plan.specs.declared.ready.ReadyReference.{ReadyReference}

@@ -1,5 +1,5 @@
 use Rattle.std.proofs.Common.{◌≡◌, ◌<◌, ◌^◌, ◌++◌, ℕ, List, false, true, ap, sym, ◌∙◌, arith, decimal, is_some, length}
-use Rattle.schema_plan.specs.Layout.{column_at, key_kind, layout_of}
+use Rattle.schema_facts.specs.Layout.{column_at, key_kind, layout_of}
 use Rattle.schema_plan.specs.declared.ready.ReadyAfter.{ReadyAfter}
 use Rattle.schema_plan.specs.declared.ready.ReadyColumn.{ReadyColumn}
 use Rattle.schema_plan.specs.declared.ready.ReadyKind.TheVariants.{After, Key, Product, Reference, Sum}

@@ -2,10 +2,10 @@ use Rattle.std.proofs.Common.{◌≡◌, ◌≤ℤ◌, ◌++◌, ℕ, ℤ, suc, 
 use Rattle.std.specs.Prelude.{IfSome}
 use Rattle.std.specs.Option.{option_map}
 use Rattle.std.proofs.lemmas.List.{append-nil}
-use Rattle.schema_plan.specs.ColumnFacts.{field_facts}
-use Rattle.schema_plan.specs.Ends.{IsInCalendar}
-use Rattle.schema_plan.specs.FieldSizes.{size_alone}
-use Rattle.schema_plan.specs.Layout.{column_at, layout_of}
+use Rattle.schema_facts.specs.ColumnFacts.{field_facts}
+use Rattle.schema_facts.specs.Ends.{IsInCalendar}
+use Rattle.schema_facts.specs.FieldSizes.{size_alone}
+use Rattle.schema_facts.specs.Layout.{column_at, layout_of}
 use Rattle.draw_values.specs.CohortValues.{IsDayOf}
 use Rattle.draw_values.specs.Dates.{date_text}
 use Rattle.draw_values.specs.Values.{put_of, written}

@@ -2,7 +2,7 @@ use Rattle.std.proofs.Common.{◌≡◌, ◌≤◌, ◌++◌, ℕ, List, ap, sym
 use Rattle.std.proofs.lemmas.List.{append-nil}
 use Rattle.line_pages.specs.Pages.{Page}
 use Rattle.row_text.specs.Fields.{field_text}
-use Rattle.schema_plan.specs.Layout.{layout_of}
+use Rattle.schema_facts.specs.Layout.{layout_of}
 use Rattle.draw_values.specs.CohortValues.{ValuesOf, value_size_for, value_for}
 use Rattle.draw_values.specs.Values.{written}
 use Rattle.row_lines.specs.CohortLines.{LinesOf, text_in_table, values_at}

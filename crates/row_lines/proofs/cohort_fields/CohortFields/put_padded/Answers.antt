@@ -1,6 +1,6 @@
 use Rattle.std.proofs.Common.{◌∙◌, ℕ, List, ap, arith, length, length-append, sym}
 use Rattle.line_pages.specs.Pages.{Page}
-use Rattle.schema_plan.specs.Layout.{layout_of}
+use Rattle.schema_facts.specs.Layout.{layout_of}
 use Rattle.row_lines.specs.Parts.{cited_for, cited_size, cited_text}
 use Rattle.row_lines.proofs.PaddedLemmas.{few_filled, length-written_padded, put-none, put-padded}
 use Rattle.row_lines.proofs.cohort_fields.CohortFields.put_padded.Goals as goal

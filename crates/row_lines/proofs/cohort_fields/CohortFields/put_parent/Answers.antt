@@ -2,7 +2,7 @@ use Rattle.std.proofs.Common.{◌≡◌, ◌++◌, ℕ, List, Option, Some, ap, 
 use Rattle.std.specs.Option.{option_map}
 use Rattle.row_text.specs.Fields.{field_text}
 use Rattle.row_text.proofs.DigitLemmas.{escaped_text-decimal}
-use Rattle.schema_plan.specs.Layout.{layout_of}
+use Rattle.schema_facts.specs.Layout.{layout_of}
 use Rattle.draw_values.specs.Values.{written}
 use Rattle.life_intervals.specs.CohortParents.{reference_by}
 use Rattle.row_lines.specs.CohortLines.{reference_value}

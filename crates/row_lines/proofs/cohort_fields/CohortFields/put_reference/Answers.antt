@@ -1,7 +1,7 @@
 use Rattle.std.proofs.Common.{◌++◌, ℕ, List, Option, ap, sym, ◌∙◌, codes}
 use Rattle.std.proofs.lemmas.List.{append-nil}
 use Rattle.line_pages.specs.Pages.{Page}
-use Rattle.schema_plan.specs.Layout.{layout_of}
+use Rattle.schema_facts.specs.Layout.{layout_of}
 use Rattle.life_intervals.specs.CohortParents.{reference_by}
 use Rattle.row_lines.specs.CohortLines.{reference_value}
 use Rattle.row_lines.proofs.CohortFieldLemmas.{field_text-null, written-null, written-text}

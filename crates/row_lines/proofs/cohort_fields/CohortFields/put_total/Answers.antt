@@ -2,7 +2,7 @@ use Rattle.std.proofs.Common.{◌≡◌, ◌++◌, ℕ, suc, List, [], Option, S
 use Rattle.std.specs.Prelude.{IfSome}
 use Rattle.std.specs.Option.{option_map}
 use Rattle.std.proofs.lemmas.List.{append-nil}
-use Rattle.schema_plan.specs.Layout.{column_at, layout_of}
+use Rattle.schema_facts.specs.Layout.{column_at, layout_of}
 use Rattle.draw_values.specs.declared.leaf_numbers.Number.{Number}
 use Rattle.draw_values.specs.CohortValues.{IsNumberOf}
 use Rattle.draw_values.specs.Values.{number_text, put_of, written}

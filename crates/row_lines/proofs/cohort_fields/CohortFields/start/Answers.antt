@@ -1,9 +1,9 @@
 use Rattle.std.proofs.Common.{◌≡◌, ℕ, pos, Option, Some, ap, subst, sym, ◌∙◌}
 use Rattle.std.specs.Prelude.{IfSome}
 use Rattle.std.specs.List.{fold}
-use Rattle.schema_plan.specs.declared.numbers.Numbers.{Numbers}
-use Rattle.schema_plan.specs.Numbers.{start_from, with_operand}
-use Rattle.schema_plan.proofs.NumberLemmas.{added-digits}
+use Rattle.schema_facts.specs.declared.numbers.Numbers.{Numbers}
+use Rattle.schema_facts.specs.Numbers.{start_from, with_operand}
+use Rattle.schema_facts.proofs.NumberLemmas.{added-digits}
 use Rattle.row_lines.specs.declared.derived.Join.{Join}
 use Rattle.row_lines.specs.declared.derived.Join.TheVariants as join
 use Rattle.row_lines.specs.CohortLines.{LinesOf}

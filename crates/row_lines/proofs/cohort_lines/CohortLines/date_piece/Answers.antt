@@ -3,9 +3,9 @@ use Rattle.std.specs.Prelude.{IfSome}
 use Rattle.std.specs.Option.{option_map}
 use Rattle.line_pages.specs.Pieces.{piece_text}
 use Rattle.row_text.specs.Fields.{field_text}
-use Rattle.schema_plan.specs.ColumnFacts.{field_cost, field_facts}
-use Rattle.schema_plan.specs.Ends.{IsInCalendar}
-use Rattle.schema_plan.specs.Layout.{column_at, layout_of}
+use Rattle.schema_facts.specs.ColumnFacts.{field_cost, field_facts}
+use Rattle.schema_facts.specs.Ends.{IsInCalendar}
+use Rattle.schema_facts.specs.Layout.{column_at, layout_of}
 use Rattle.draw_values.specs.CohortValues.{IsDayOf, ValuesOf}
 use Rattle.draw_values.specs.Dates.{date_text}
 use Rattle.draw_values.proofs.PlainLemmas.{escaped_text-plain, plain-date_text}

@@ -1,5 +1,5 @@
 use Rattle.std.proofs.Common.{ap, arith, ◌∙◌}
-use Rattle.schema_plan.specs.Dictionaries.{Project}
+use Rattle.schema_facts.specs.Dictionaries.{Project}
 use Rattle.life_intervals.specs.Generator.{last_unit}
 use Rattle.row_lines.specs.CohortLines.{LinesOf, values_at}
 use Rattle.row_lines.proofs.CohortLineLemmas.{AreLinesOf-view, change_for-le}

@@ -1,6 +1,6 @@
 use Rattle.std.proofs.Common.{◌≡◌, ◌++◌, ℕ, List, false, true, length, ap, arith, sym, ◌∙◌}
 use Rattle.schema_plan.specs.declared.ready.ReadyColumn.{ReadyColumn}
-use Rattle.schema_plan.specs.Layout.{column_at, layout_of}
+use Rattle.schema_facts.specs.Layout.{column_at, layout_of}
 use Rattle.schema_plan.specs.Limits.{is_lookup_kind}
 use Rattle.draw_values.specs.CohortValues.{ValuesOf}
 use Rattle.row_lines.specs.CohortLines.{LinesOf, asked_for, layout_for, size_for, text_in_cohort, text_in_table}

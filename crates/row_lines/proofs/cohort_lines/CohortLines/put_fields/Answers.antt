@@ -2,7 +2,7 @@ use Rattle.std.proofs.Common.{◌≡◌, ◌<◌, ◌==◌, ◌++◌, if◌then�
 use Rattle.std.specs.List.{join_with_byte, range_with_len}
 use Rattle.std.proofs.lemmas.List.{append_assoc}
 use Rattle.std.proofs.lemmas.List.Sums.{sum_by-take-le, sum_by_more, sum_by_more_le}
-use Rattle.schema_plan.specs.Layout.{ColumnLayout, layout_of, no_column}
+use Rattle.schema_facts.specs.Layout.{ColumnLayout, layout_of, no_column}
 use Rattle.line_pages.specs.Pages.{Page}
 use Rattle.row_lines.specs.CohortLines.{LinesOf, asked_for, layout_for, text_in_cohort}
 use Rattle.row_lines.proofs.CohortLineLemmas.{AreLinesOf-view, asked_before, asked_for_line-is, length-delimiter, line_in_cohort-fields, max_line-columns, room_in, sum_by-range_more}

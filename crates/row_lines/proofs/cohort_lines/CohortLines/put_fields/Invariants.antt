@@ -1,6 +1,6 @@
 use Rattle.std.proofs.Common.{◌≡◌, ◌≤◌, ◌+◌, ◌++◌, length, map, min}
 use Rattle.std.specs.List.{join_with_byte, range_with_len}
-use Rattle.schema_plan.specs.Layout.{layout_of}
+use Rattle.schema_facts.specs.Layout.{layout_of}
 use Rattle.row_lines.specs.CohortLines.{text_in_cohort}
 use Rattle.row_lines.proofs.CohortLineLemmas.{asked_before, bytes_before}
 use Rattle.row_lines.proofs.cohort_lines.CohortLines.put_fields.Given as goal

@@ -1,9 +1,9 @@
 use Rattle.std.proofs.Common.{◌<◌, ◌≤◌, ◌++◌, ℕ, length, ap, arith, subst, sym, ◌∙◌}
 use Rattle.cohort_sizes.specs.Births.{birth}
-use Rattle.schema_plan.specs.ColumnFacts.{field_cost}
-use Rattle.schema_plan.specs.Dictionaries.{Project}
-use Rattle.schema_plan.specs.FieldSizes.{size_at}
-use Rattle.schema_plan.specs.Layout.{layout_of}
+use Rattle.schema_facts.specs.ColumnFacts.{field_cost}
+use Rattle.schema_facts.specs.Dictionaries.{Project}
+use Rattle.schema_facts.specs.FieldSizes.{size_at}
+use Rattle.schema_facts.specs.Layout.{layout_of}
 use Rattle.life_intervals.specs.Generator.{last_unit, rows_in_all, table_of}
 use Rattle.cohort_sizes.proofs.CohortLemmas.{born_count-le}
 use Rattle.row_lines.specs.CohortLines.{LinesOf}

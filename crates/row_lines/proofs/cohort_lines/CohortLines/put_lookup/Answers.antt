@@ -3,7 +3,7 @@ use Rattle.schema_plan.specs.declared.ready.ReadyColumn.{ReadyColumn}
 use Rattle.schema_plan.specs.declared.ready.ReadyLookup.{ReadyLookup}
 use Rattle.schema_plan.specs.declared.ready.ReadyReference.{ReadyReference}
 use Rattle.cohort_sizes.specs.Births.{born_count, cohort_size}
-use Rattle.schema_plan.specs.Layout.{column_at}
+use Rattle.schema_facts.specs.Layout.{column_at}
 use Rattle.schema_plan.specs.Limits.{IsInLimits}
 use Rattle.draw_values.specs.CohortValues.{ValuesOf, is_null_for}
 use Rattle.draw_values.specs.Values.{is_null}

@@ -1,7 +1,7 @@
 use Rattle.std.proofs.Common.{ap, arith, subst, ◌∙◌}
 use Rattle.std.specs.Prelude.{IfSome}
-use Rattle.schema_plan.specs.ColumnFacts.{field_cost, field_facts}
-use Rattle.schema_plan.specs.Layout.{layout_of}
+use Rattle.schema_facts.specs.ColumnFacts.{field_cost, field_facts}
+use Rattle.schema_facts.specs.Layout.{layout_of}
 use Rattle.draw_values.specs.CohortValues.{IsNumberOf, ValuesOf}
 use Rattle.row_lines.specs.CohortLines.{AreLinesOf, LinesOf}
 use Rattle.row_lines.specs.Derived.{columns_before}

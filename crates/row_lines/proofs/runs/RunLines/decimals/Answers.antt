@@ -1,7 +1,7 @@
 use Rattle.std.proofs.Common.{◌≡◌, ◌≤◌, Some, ap, arith, sym, ◌∙◌}
-use Rattle.schema_plan.specs.ColumnFacts.{field_facts}
-use Rattle.schema_plan.specs.Dictionaries.{Project}
-use Rattle.schema_plan.specs.Layout.{layout_of}
+use Rattle.schema_facts.specs.ColumnFacts.{field_facts}
+use Rattle.schema_facts.specs.Dictionaries.{Project}
+use Rattle.schema_facts.specs.Layout.{layout_of}
 use Rattle.row_lines.specs.Runs.{RunLinesOf}
 use Rattle.row_lines.proofs.RunFieldLemmas.{lines_of}
 use Rattle.row_lines.proofs.RunPieceLemmas.{AreRunLines-view}

@@ -1,6 +1,6 @@
 use Rattle.std.proofs.Common.{ap, arith, sym, ◌∙◌}
-use Rattle.schema_plan.specs.ColumnFacts.{field_facts}
-use Rattle.schema_plan.specs.Layout.{layout_of}
+use Rattle.schema_facts.specs.ColumnFacts.{field_facts}
+use Rattle.schema_facts.specs.Layout.{layout_of}
 use Rattle.row_lines.specs.CohortLines.{LinesOf}
 use Rattle.row_lines.specs.Runs.{RunLinesOf}
 use Rattle.row_lines.proofs.RowOfRunLemmas.{of_unit}

@@ -1,7 +1,7 @@
 use Rattle.std.proofs.Common.{◌≡◌, ap, arith, ◌∙◌}
 use Rattle.cohort_sizes.specs.Births.{first_ordinal}
 use Rattle.cohort_sizes.proofs.CohortLemmas.{cohort-within}
-use Rattle.schema_plan.specs.Dictionaries.{Project}
+use Rattle.schema_facts.specs.Dictionaries.{Project}
 use Rattle.life_intervals.specs.Generator.{table_of}
 use Rattle.row_lines.specs.Runs.{RunLinesOf, layout_for, run_text}
 use Rattle.row_lines.proofs.RunPieceLemmas.{AreRunLines-view}

@@ -1,5 +1,5 @@
 use Rattle.std.proofs.Common.{◌≡◌, ℕ, ◌+◌, true, false, get_or, length, ap, arith, subst, sym, ◌∙◌}
-use Rattle.schema_plan.specs.Dictionaries.{Project}
+use Rattle.schema_facts.specs.Dictionaries.{Project}
 use Rattle.draw_values.specs.Items.{itemized_field}
 use Rattle.draw_values.specs.Runs.{AreRunRows, IsRunColumn, RunColumnOf, run_row}
 use Rattle.life_intervals.specs.Generator.{last_unit}

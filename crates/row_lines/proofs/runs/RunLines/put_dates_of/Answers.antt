@@ -1,7 +1,7 @@
 use Rattle.std.proofs.Common.{◌≡◌, ◌∷◌, ◌++◌, ℕ, pos, List, [], length, get_or, if◌then◌else◌, ap, arith, subst, sym, ◌∙◌}
 use Rattle.line_pages.specs.Rows.{piece_text_at}
-use Rattle.schema_plan.specs.Dictionaries.{Project}
-use Rattle.schema_plan.specs.Layout.{column_at}
+use Rattle.schema_facts.specs.Dictionaries.{Project}
+use Rattle.schema_facts.specs.Layout.{column_at}
 use Rattle.draw_values.specs.Dates.{date_text}
 use Rattle.draw_values.specs.Runs.{AreRunRows, IsRunColumn, is_null_in, null_text, run_row}
 use Rattle.life_intervals.specs.Generator.{last_unit}

@@ -1,8 +1,8 @@
 use Rattle.std.proofs.Common.{◌≡◌, ◌≤◌, length, ap, arith, subst, sym, ◌∙◌}
 use Rattle.line_pages.specs.Rows.{piece_text_at}
 use Rattle.row_text.specs.Fields.{field_text}
-use Rattle.schema_plan.specs.Dictionaries.{Project}
-use Rattle.schema_plan.specs.Layout.{layout_of}
+use Rattle.schema_facts.specs.Dictionaries.{Project}
+use Rattle.schema_facts.specs.Layout.{layout_of}
 use Rattle.draw_values.specs.Runs.{AreRunRows, IsRunColumn, RunColumnOf, run_row, run_field}
 use Rattle.draw_values.specs.Values.{size_at, value_at}
 use Rattle.life_intervals.specs.Generator.{last_unit}

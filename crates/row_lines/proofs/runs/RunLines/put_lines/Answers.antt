@@ -3,8 +3,8 @@ use Rattle.std.specs.Prelude.{All}
 use Rattle.std.specs.List.{range_with_len}
 use Rattle.std.proofs.lemmas.List.{take_all}
 use Rattle.std.proofs.lemmas.List.Elements.{All-from_get_or, All-more}
-use Rattle.schema_plan.specs.Layout.{layout_of}
-use Rattle.schema_plan.specs.TableFacts.{max_line}
+use Rattle.schema_facts.specs.Layout.{layout_of}
+use Rattle.schema_facts.specs.TableFacts.{max_line}
 use Rattle.row_lines.specs.CohortLines.{LinesOf}
 use Rattle.row_lines.specs.RunFields.{AreMade, HasSizes, asked_long}
 use Rattle.row_lines.specs.Runs.{RunLinesOf, layout_for, line_for, listed_text}

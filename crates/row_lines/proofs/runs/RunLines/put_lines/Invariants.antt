@@ -1,8 +1,8 @@
 use Rattle.std.proofs.Common.{◌≡◌, ◌≤◌, ◌+◌, ◌*◌, ◌++◌, length, sum_by, take}
 use Rattle.std.specs.Prelude.{All}
 use Rattle.std.specs.List.{range_with_len}
-use Rattle.schema_plan.specs.Layout.{layout_of}
-use Rattle.schema_plan.specs.TableFacts.{max_line}
+use Rattle.schema_facts.specs.Layout.{layout_of}
+use Rattle.schema_facts.specs.TableFacts.{max_line}
 use Rattle.row_lines.specs.RunFields.{HasSizes, asked_long}
 use Rattle.row_lines.specs.Runs.{layout_for, listed_text}
 use Rattle.row_lines.proofs.RowOfRunLemmas.{of_unit}

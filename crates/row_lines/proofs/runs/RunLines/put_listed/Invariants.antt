@@ -1,7 +1,7 @@
 use Rattle.std.proofs.Common.{◌≡◌, ◌≤◌, ◌+◌, ◌-◌, ◌*◌, ◌++◌, length, take}
 use Rattle.std.specs.Prelude.{All}
-use Rattle.schema_plan.specs.Layout.{layout_of}
-use Rattle.schema_plan.specs.TableFacts.{line_cost, max_line}
+use Rattle.schema_facts.specs.Layout.{layout_of}
+use Rattle.schema_facts.specs.TableFacts.{line_cost, max_line}
 use Rattle.row_lines.specs.RunFields.{HasSizes}
 use Rattle.row_lines.specs.Runs.{listed_text}
 use Rattle.row_lines.proofs.runs.RunLines.put_listed.Given as goal

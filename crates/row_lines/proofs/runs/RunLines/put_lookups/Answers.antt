@@ -1,8 +1,8 @@
 use Rattle.std.proofs.Common.{◌≡◌, ◌<◌, ◌≤◌, ◌∷◌, ◌++◌, ℕ, List, [], false, length, get_or, if◌then◌else◌, ap, arith, subst, sym, ◌∙◌}
 use Rattle.line_pages.specs.Rows.{piece_text_at}
 use Rattle.schema_plan.specs.declared.ready.ReadyColumn.{ReadyColumn}
-use Rattle.schema_plan.specs.Dictionaries.{Project}
-use Rattle.schema_plan.specs.Layout.{layout_of}
+use Rattle.schema_facts.specs.Dictionaries.{Project}
+use Rattle.schema_facts.specs.Layout.{layout_of}
 use Rattle.schema_plan.specs.Limits.{IsStillColumn}
 use Rattle.schema_plan.specs.Ready.{ready_columns}
 use Rattle.draw_values.specs.Runs.{AreRunRows, IsRunColumn, RunColumnOf, is_null_in, null_text, run_column, run_row}

@@ -1,7 +1,7 @@
 use Rattle.std.proofs.Common.{◌≡◌, ◌≤◌, ◌++◌, ◌∷◌, [], ℕ, Bool, true, false, List, if◌then◌else◌, length, length-append, get_or, ap, arith, subst, sym, ◌∙◌}
 use Rattle.row_text.specs.Fields.{field_text}
-use Rattle.schema_plan.specs.Dictionaries.{Project}
-use Rattle.schema_plan.specs.Layout.{layout_of}
+use Rattle.schema_facts.specs.Dictionaries.{Project}
+use Rattle.schema_facts.specs.Layout.{layout_of}
 use Rattle.draw_values.specs.Items.{field_behind, itemized_field}
 use Rattle.draw_values.specs.Runs.{IsRunColumn, RunColumnOf, run_row}
 use Rattle.draw_values.specs.Values.{size_at, value_at}

@@ -1,8 +1,8 @@
 use Rattle.std.proofs.Common.{◌≡◌, ◌<◌, ◌≤◌, ◌+◌, ◌*◌, ℕ, Bool, true, false, List, get_or, length, if◌then◌else◌, refl, ap, arith, subst, sym, ◌∙◌}
 use Rattle.std.proofs.Math.Nat.{mul-le-mul_left}
-use Rattle.schema_plan.specs.Dictionaries.{Project}
-use Rattle.schema_plan.specs.Layout.{TableLayout, layout_of}
-use Rattle.schema_plan.specs.Lineage.{choice_cost, death_cost, one_if}
+use Rattle.schema_facts.specs.Dictionaries.{Project}
+use Rattle.schema_facts.specs.Layout.{TableLayout, layout_of}
+use Rattle.schema_facts.specs.Lineage.{choice_cost, death_cost, one_if}
 use Rattle.life_intervals.specs.CohortParents.{asked_for_death, held_cost, parent_cost, reference_by}
 use Rattle.life_intervals.specs.Generator.{generator_of, last_unit, table_of}
 use Rattle.life_intervals.specs.Intervals.{is_live, parent_of}

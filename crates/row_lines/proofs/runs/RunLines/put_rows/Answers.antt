@@ -1,8 +1,8 @@
 use Rattle.std.proofs.Common.{◌≡◌, ◌≤◌, ℕ, List, length, length-take, take, arith, subst}
 use Rattle.std.specs.Prelude.{All}
 use Rattle.std.proofs.Math.Nat.{mul-le-mul_left, mul-le-mul_right}
-use Rattle.schema_plan.specs.Layout.{layout_of}
-use Rattle.schema_plan.specs.TableFacts.{line_cost}
+use Rattle.schema_facts.specs.Layout.{layout_of}
+use Rattle.schema_facts.specs.TableFacts.{line_cost}
 use Rattle.life_intervals.specs.CohortParents.{asked_for_death}
 use Rattle.life_intervals.proofs.CohortParentLemmas.{asked_for_death-cost}
 use Rattle.row_lines.specs.RunFields.{HasSizes}

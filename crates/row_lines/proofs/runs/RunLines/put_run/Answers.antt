@@ -2,8 +2,8 @@ use Rattle.std.proofs.Common.{ℕ, arith, subst, sym}
 use Rattle.std.specs.Prelude.{All}
 use Rattle.std.proofs.lemmas.List.Elements.{All-append}
 use Rattle.cohort_sizes.proofs.CohortLemmas.{born_count-le}
-use Rattle.schema_plan.specs.Layout.{layout_of}
-use Rattle.schema_plan.specs.TableFacts.{max_line}
+use Rattle.schema_facts.specs.Layout.{layout_of}
+use Rattle.schema_facts.specs.TableFacts.{max_line}
 use Rattle.life_intervals.specs.Generator.{last_unit}
 use Rattle.row_lines.specs.RunFields.{HasSizes}
 use Rattle.row_lines.specs.Runs.{RunLinesOf, layout_for, living_from, run_text}

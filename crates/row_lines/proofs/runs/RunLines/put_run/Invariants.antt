@@ -1,7 +1,7 @@
 use Rattle.std.proofs.Common.{◌≡◌, ◌≤◌, ◌+◌, ◌-◌, ◌*◌, ◌++◌, length}
 use Rattle.std.specs.Prelude.{All}
-use Rattle.schema_plan.specs.Layout.{layout_of}
-use Rattle.schema_plan.specs.TableFacts.{cost, max_line}
+use Rattle.schema_facts.specs.Layout.{layout_of}
+use Rattle.schema_facts.specs.TableFacts.{cost, max_line}
 use Rattle.row_lines.specs.RunFields.{HasSizes}
 use Rattle.row_lines.specs.Runs.{living_from, run_text}
 use Rattle.row_lines.proofs.runs.RunLines.put_run.Given as goal

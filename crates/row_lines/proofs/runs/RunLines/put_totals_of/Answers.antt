@@ -1,8 +1,8 @@
 use Rattle.std.proofs.Common.{◌≡◌, ◌≤◌, ◌∷◌, ◌++◌, ℕ, [], get_or, if◌then◌else◌, length, pos, ap, arith, subst, sym, ◌∙◌}
 use Rattle.line_pages.specs.Rows.{piece_text_at}
-use Rattle.schema_plan.specs.ColumnFacts.{field_facts}
-use Rattle.schema_plan.specs.Dictionaries.{Project}
-use Rattle.schema_plan.specs.Layout.{layout_of}
+use Rattle.schema_facts.specs.ColumnFacts.{field_facts}
+use Rattle.schema_facts.specs.Dictionaries.{Project}
+use Rattle.schema_facts.specs.Layout.{layout_of}
 use Rattle.draw_values.specs.Runs.{AreRunRows, IsRunColumn, RunColumnOf, is_null_in, null_text, run_row}
 use Rattle.draw_values.specs.Values.{number_text}
 use Rattle.life_intervals.specs.Generator.{last_unit}

@@ -2,7 +2,7 @@ use Rattle.std.proofs.Common.{◌≡◌, ◌++◌, ℕ, Bool, List, [], ◌∷�
 use Rattle.std.specs.List.{range_with_len}
 use Rattle.std.proofs.lemmas.List.FromFn.{map-range_with_len_more}
 use Rattle.schema_plan.specs.declared.ready.ReadyColumn.{ReadyColumn}
-use Rattle.schema_plan.specs.Dictionaries.{Project}
+use Rattle.schema_facts.specs.Dictionaries.{Project}
 use Rattle.draw_values.specs.Runs.{RunColumnOf}
 use Rattle.life_intervals.specs.Generator.{table_of}
 use Rattle.life_intervals.proofs.CohortParentLemmas.{length-ready_columns}

@@ -1,9 +1,9 @@
 use Rattle.std.proofs.Common.{ℕ, ◌<◌, List, get_or, length, sym, ap, ◌∙◌, subst, arith}
 use Rattle.std.proofs.lemmas.List.{length-map}
 use Rattle.cohort_sizes.specs.Kept.{BirthsUpTo}
-use Rattle.schema_plan.specs.Counts.{count}
-use Rattle.schema_plan.specs.Dictionaries.{Project, project_of}
-use Rattle.schema_plan.specs.Layout.{layout_of, table_at}
+use Rattle.schema_facts.specs.Counts.{count}
+use Rattle.schema_facts.specs.Dictionaries.{Project, project_of}
+use Rattle.schema_facts.specs.Layout.{layout_of, table_at}
 use Rattle.schema_plan.specs.Planned.{births_through}
 use Rattle.schema_plan.proofs.PlannedLemmas.{cohorts_kept}
 use Rattle.schema_plan.proofs.plan.Plan.cohorts.Goals as goal

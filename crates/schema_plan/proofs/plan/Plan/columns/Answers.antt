@@ -1,9 +1,9 @@
 use Rattle.std.proofs.Common.{◌≡◌, ◌<◌, ◌≤◌, length, sym, ap, ◌∙◌, subst, arith}
 use Rattle.std.proofs.lemmas.List.{length-map}
-use Rattle.schema_plan.specs.Counts.{count}
-use Rattle.schema_plan.specs.Layout.{layout_of, no_table, table_at, table_layout}
+use Rattle.schema_facts.specs.Counts.{count}
+use Rattle.schema_facts.specs.Layout.{layout_of, no_table, table_at, table_layout}
 use Rattle.schema_plan.specs.Limits.{IsTableInLimits}
-use Rattle.schema_plan.specs.Dictionaries.{Project, project_of}
+use Rattle.schema_facts.specs.Dictionaries.{Project, project_of}
 use Rattle.schema_plan.specs.Ready.{ready_columns}
 use Rattle.schema_plan.proofs.PlannedLemmas.{length-kept, get_or-kept}
 use Rattle.schema_plan.proofs.plan.Plan.columns.Goals as goal

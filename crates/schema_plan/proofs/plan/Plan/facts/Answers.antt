@@ -1,6 +1,6 @@
 use Rattle.std.proofs.Common.{sym, ap, ◌∙◌}
-use Rattle.schema_plan.specs.Capped.{first_facts}
-use Rattle.schema_plan.specs.Dictionaries.{project_of}
+use Rattle.schema_facts.specs.Capped.{first_facts}
+use Rattle.schema_facts.specs.Dictionaries.{project_of}
 use Rattle.schema_plan.proofs.PlannedLemmas.{facts_whole}
 use Rattle.schema_plan.proofs.plan.Plan.facts.Goals as goal
 

@@ -1,11 +1,11 @@
 use Rattle.std.proofs.Common.{ℕ, List, ap, map, ◌∙◌}
 use Rattle.schema_model.specs.declared.table.Schema.{Schema}
 use Rattle.schema_model.specs.declared.table.Table.{Table}
-use Rattle.schema_plan.specs.declared.facts.TableFacts.{TableFacts}
-use Rattle.schema_plan.specs.Capped.{capped_column}
-use Rattle.schema_plan.specs.ColumnFacts.{column_facts, facts_of_columns}
+use Rattle.schema_facts.specs.declared.facts.TableFacts.{TableFacts}
+use Rattle.schema_facts.specs.Capped.{capped_column}
+use Rattle.schema_facts.specs.ColumnFacts.{column_facts, facts_of_columns}
 use Rattle.schema_plan.specs.Beside.{facts_beside}
-use Rattle.schema_plan.specs.Layout.{layout_of, table_layout, table_layouts}
+use Rattle.schema_facts.specs.Layout.{layout_of, table_layout, table_layouts}
 use Rattle.schema_plan.proofs.BesideLemmas.{all_facts}
 use Rattle.schema_plan.proofs.plan.Plan.facts_beside.Goals as goal
 

@@ -1,8 +1,8 @@
 use Rattle.std.proofs.Common.{◌≡◌, ◌<◌, ◌≤◌, sym, ap, ◌∙◌, subst, arith, length}
-use Rattle.schema_plan.specs.declared.facts.TableFacts.{TableFacts}
-use Rattle.schema_plan.specs.Layout.{layout_of}
-use Rattle.schema_plan.specs.Dictionaries.{Project, project_of}
-use Rattle.schema_plan.specs.TableFacts.{facts_at, reach}
+use Rattle.schema_facts.specs.declared.facts.TableFacts.{TableFacts}
+use Rattle.schema_facts.specs.Layout.{layout_of}
+use Rattle.schema_facts.specs.Dictionaries.{Project, project_of}
+use Rattle.schema_facts.specs.TableFacts.{facts_at, reach}
 use Rattle.schema_plan.proofs.PlannedLemmas.{length-kept, get_or-kept, max_line-reach}
 use Rattle.schema_plan.proofs.plan.Plan.facts_of.Goals as goal
 

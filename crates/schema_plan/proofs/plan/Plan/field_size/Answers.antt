@@ -1,11 +1,11 @@
 use Rattle.std.proofs.Common.{◌≡◌, ◌<◌, ℕ, List, ap, arith, get_or, length, map, subst, sym, ◌∙◌}
 use Rattle.schema_model.specs.declared.column.Column.{Column}
 use Rattle.schema_model.specs.declared.table.Table.{Table}
-use Rattle.schema_plan.specs.Capped.{capped}
-use Rattle.schema_plan.specs.Dictionaries.{Project, project_of}
-use Rattle.schema_plan.specs.FieldSizes.{size_of}
-use Rattle.schema_plan.specs.Layout.{column_layout, kind_layout, layout_of, table_at, table_layout, table_layouts}
-use Rattle.schema_plan.specs.TableFacts.{max_line}
+use Rattle.schema_facts.specs.Capped.{capped}
+use Rattle.schema_facts.specs.Dictionaries.{Project, project_of}
+use Rattle.schema_facts.specs.FieldSizes.{size_of}
+use Rattle.schema_facts.specs.Layout.{column_layout, kind_layout, layout_of, table_at, table_layout, table_layouts}
+use Rattle.schema_facts.specs.TableFacts.{max_line}
 use Rattle.schema_plan.proofs.FieldSizeLemmas.{size-found, size_for, columns-found, field-less, field-uncapped}
 use Rattle.schema_plan.proofs.plan.Plan.field_size.Goals as goal
 use Rattle.schema_plan.proofs.plan.Plan.field_size.Goals.{After-size_of}

@@ -2,10 +2,10 @@ use Rattle.std.proofs.Common.{ℕ, List, ap, map, ◌∙◌}
 use Rattle.schema_model.specs.declared.table.Schema.{Schema}
 use Rattle.schema_model.specs.declared.table.Table.{Table}
 use Rattle.schema_plan.specs.Beside.{line_beside}
-use Rattle.schema_plan.specs.Capped.{capped}
-use Rattle.schema_plan.specs.FieldSizes.{field_sizes}
-use Rattle.schema_plan.specs.Layout.{column_layout, layout_of, table_layouts}
-use Rattle.schema_plan.specs.TableFacts.{line_size}
+use Rattle.schema_facts.specs.Capped.{capped}
+use Rattle.schema_facts.specs.FieldSizes.{field_sizes}
+use Rattle.schema_facts.specs.Layout.{column_layout, layout_of, table_layouts}
+use Rattle.schema_facts.specs.TableFacts.{line_size}
 use Rattle.schema_plan.proofs.plan.Plan.line_beside.Goals as goal
 
 pub returns : goal.returns

@@ -2,10 +2,10 @@ use Rattle.std.proofs.Common.{◌≡◌, ℕ, ℤ, pos, ◌≤◌, All, List, ma
 use Rattle.std.proofs.lemmas.Int.{ints, to_z-of_z}
 use mir.Val.{SFits, of_z, to_z}
 use Rattle.schema_model.specs.declared.table.Table.{Table}
-use Rattle.schema_plan.specs.Dictionaries.{project_of}
-use Rattle.schema_plan.specs.FieldSizes.{greatest_by}
-use Rattle.schema_plan.specs.Counts.{count}
-use Rattle.schema_plan.specs.Layout.{births_of}
+use Rattle.schema_facts.specs.Dictionaries.{project_of}
+use Rattle.schema_facts.specs.FieldSizes.{greatest_by}
+use Rattle.schema_facts.specs.Counts.{count}
+use Rattle.schema_facts.specs.Layout.{births_of}
 use Rattle.schema_plan.specs.Limits.{AreBirthsInLimits}
 use Rattle.schema_plan.specs.Planned.{births_through}
 use Rattle.schema_plan.proofs.PlannedLemmas.{births_in_limits, facts_whole, reach-is}

@@ -1,8 +1,8 @@
 use Rattle.std.proofs.Common.{◌<◌, length, sym, subst, arith}
 use Rattle.std.proofs.lemmas.List.{length-map}
-use Rattle.schema_plan.specs.Layout.{layout_of, no_table, table_at, table_layout}
+use Rattle.schema_facts.specs.Layout.{layout_of, no_table, table_at, table_layout}
 use Rattle.schema_plan.specs.Limits.{IsTableInLimits}
-use Rattle.schema_plan.specs.Dictionaries.{Project, project_of}
+use Rattle.schema_facts.specs.Dictionaries.{Project, project_of}
 use Rattle.schema_plan.proofs.plan.Plan.table.Goals as goal
 
 pub returns-clause-limits : goal.returns-clause-limits

@@ -2,8 +2,8 @@ use Rattle.std.proofs.Common.{◌≡◌, ◌∙◌, ◌<◌, [], List, ap, sym, 
 use Rattle.std.specs.List.{position_or_len}
 use Rattle.std.proofs.lemmas.List.{get_or-map, length-map}
 use Rattle.dictionaries.specs.WordList.{IsWordList, WordList}
-use Rattle.schema_plan.specs.Dictionaries.{Dictionary, no_words, words_named}
-use Rattle.schema_plan.specs.Names.{same_text}
+use Rattle.schema_facts.specs.Dictionaries.{Dictionary, no_words, words_named}
+use Rattle.schema_facts.specs.Names.{same_text}
 use Rattle.schema_plan.specs.ReadyWords.{Spelling, written_words}
 use Rattle.schema_plan.proofs.WordListLemmas.{found_at_place}
 use Rattle.schema_plan.proofs.ready_words.Lexicon.ready_words.Goals as goal

@@ -1,5 +1,5 @@
 use Rattle.std.proofs.Common.{◌≡◌, All, List, arith, map, subst, sym}
-use Rattle.schema_plan.specs.Dictionaries.{Project}
+use Rattle.schema_facts.specs.Dictionaries.{Project}
 use Rattle.update_box.specs.Kept.{IsKeptShare, IsSnapshot, kept_share}
 use Rattle.update_box.specs.Packages.{chosen_places, share_of}
 use Rattle.update_box.specs.Parts.{parts_of, snapshot_contents}

@@ -1,6 +1,6 @@
 use Rattle.std.proofs.Common.{◌≡◌, ℕ, List, ap, ap₂, arith, subst, sym, ◌∙◌}
 use Rattle.cohort_sizes.specs.declared.cohort.Cohort.{Cohort}
-use Rattle.schema_plan.specs.Dictionaries.{Project}
+use Rattle.schema_facts.specs.Dictionaries.{Project}
 use Rattle.schema_plan.specs.Limits.{IsInLimits}
 use Rattle.life_intervals.specs.CohortKeys.{IsCohort}
 use Rattle.update_box.specs.UnitLists.{table_lists}

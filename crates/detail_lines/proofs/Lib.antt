@@ -1,0 +1,15 @@
+pub mod TextLemmas
+pub mod LineLemmas
+pub mod ToldLemmas
+pub mod DeclaredLemmas
+pub mod ValueLemmas
+pub mod ColumnLemmas
+pub mod WordListLemmas
+pub mod ShownLemmas
+pub mod LineSizeLemmas
+pub mod LineValueLemmas
+pub mod LineRunLemmas
+pub mod LineTotalLemmas
+pub mod LineListLemmas
+pub mod LineParentLemmas
+pub mod LineMixedLemmas

@@ -1,6 +1,0 @@
-use Rattle.std.proofs.Common.{◌≡◌, ◌<◌, ℕ, false, get_or}
-use Rattle.detail_rows.specs.LineRuns.{IsDrawnAt}
-use Rattle.detail_rows.proofs.detail_lines.DetailLines.can_be_mixed.Given as goal
-
-abbrev pub invariant-loop-column : goal.invariant-loop-column
-invariant-loop-column l = (k : ℕ) → k < l.column → get_or l.made k false ≡ false → IsDrawnAt l.self k

@@ -1,0 +1,12 @@
+pub mod Lists
+pub mod PlaceLemmas
+pub mod Capping
+pub mod LineageLemmas
+pub mod SizeLemmas
+pub mod ColumnFactsLemmas
+pub mod NumberLemmas
+pub mod FieldFactsLemmas
+pub mod NumberRangeLemmas
+pub mod DayRangeLemmas
+pub mod FactsLemmas
+pub mod SpreadLemmas

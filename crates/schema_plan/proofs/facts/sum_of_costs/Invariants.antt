@@ -1,7 +1,0 @@
-use Rattle.std.proofs.Common.{◌≡◌, take}
-use Rattle.schema_plan.specs.Capped.{capped}
-use Rattle.schema_plan.specs.TableFacts.{sum_of_costs}
-use Rattle.schema_plan.proofs.facts.sum_of_costs.Given as goal
-
-abbrev pub invariant-loop-facts : goal.invariant-loop-facts
-invariant-loop-facts l = l.cost ≡ capped (sum_of_costs (take l.facts-index l.columns))

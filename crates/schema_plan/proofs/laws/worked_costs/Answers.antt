@@ -1,9 +1,0 @@
-use Rattle.std.proofs.Common.{refl}
-use Rattle.schema_plan.specs.ColumnFacts.{column_facts}
-use Rattle.schema_plan.specs.Lineage.{lineages}
-use Rattle.schema_plan.specs.TableFacts.{line_cost}
-use Rattle.schema_plan.proofs.laws.worked_costs.Goals as goal
-
-pub returns : goal.returns
-unfolding lineages line_cost column_facts
-returns c = record { customer = refl; orders = refl; lines = refl; city = refl; house = refl; remark = refl }

@@ -1,7 +1,0 @@
-use Rattle.std.proofs.Common.{refl}
-use Rattle.schema_plan.specs.ColumnFacts.{column_facts}
-use Rattle.schema_plan.proofs.laws.worked_days.Goals as goal
-
-pub returns : goal.returns
-unfolding column_facts
-returns c = record { due = refl; before_year_1 = refl; past_year_9999 = refl }
