@@ -24,10 +24,7 @@ use Rattle.request_words.specs.declared.usage.Request.{Request}
 use Rattle.row_lines.specs.Lines.{table_text}
 use Rattle.life_intervals.specs.Generator.{generator_of, last_unit}
 use Rattle.row_text.specs.Fields.{IsDelimiter}
-use Rattle.schema_model.specs.declared.table.Delimiter.{Delimiter}
 use Rattle.schema_model.specs.declared.table.Table.{Table}
-use Rattle.schema_model.specs.declared.table.Delimiter.TheVariants.{Bar, Tab}
-use Rattle.schema_facts.specs.Delimiters.{delimiter_byte}
 use Rattle.schema_facts.specs.Dictionaries.{Project}
 use Rattle.schema_facts.specs.Layout.{layout_of}
 use Rattle.schema_plan.specs.Limits.{IsInLimits}
@@ -38,7 +35,7 @@ use Rattle.stream_apply.specs.InTurn.{IsAppliedText}
 use Rattle.stream_apply.specs.declared.key_fields.KeyFields.TheVariants.{One}
 use Rattle.update_box.proofs.ApplyLawLemmas.{units-applied}
 use Rattle.update_box.specs.TextLaws.{unit_streams}
-use Rattle.pdgf_run.specs.DueFiles.{chosen_table}
+use Rattle.run_jobs.specs.DueFiles.{chosen_table}
 use Rattle.pdgf_run.specs.ReadingList.{reads_schema}
 use Rattle.pdgf_run.specs.TopCall.{Carries, GivesLater}
 use Rattle.pdgf_run.specs.Verdict.{IsInMode, IsVerdict}
@@ -48,17 +45,19 @@ use Rattle.update_box.specs.Parts.{name_at}
 use Rattle.csv_face.specs.Csv.{BeginInAscii, HasRows}
 use Rattle.request_words.specs.declared.usage.Format.{Format}
 use Rattle.request_words.specs.declared.usage.Format.TheVariants.{Copy, Csv, Sql}
-use Rattle.pdgf_run.specs.Formats.{AreWritten, each_after, made_files}
-use Rattle.pdgf_run.specs.Replay.{AreReplayed, IsMadeIn, IsMadeOf, format_of, input_columns, input_headings, input_limit, input_paths, inputs_at, text_headings, text_name}
-use Rattle.pdgf_run.specs.declared.replay.Replay.{Replay}
-use Rattle.pdgf_run.specs.declared.replay.Way.TheVariants as way
-use Rattle.pdgf_run.specs.modes.Apply.{AreLaterFiles, HoldInputs, IsApplyDue, apply_of, columns_by, of_choice, table_inputs, tables_asked}
-use Rattle.pdgf_run.proofs.ColumnLemmas.{accepted, names-ascii}
-use Rattle.pdgf_run.proofs.KeyedTextLemmas.{IsKeyedOf, chosen-within, columns-are, columns_at, format_is, input_columns-ascii, inputs-keyed, later-rows, some-csvs, texts-read}
-use Rattle.pdgf_run.proofs.ChunkLemmas.{chunk}
-use Rattle.pdgf_run.proofs.ApplyLemmas.{due_asked}
-use Rattle.pdgf_run.proofs.ReplayLemmas.{long_behind, read_and_made}
+use Rattle.run_jobs.specs.Formats.{AreWritten, each_after, made_files}
+use Rattle.replay_files.specs.Replay.{AreReplayed, IsMadeIn, IsMadeOf, format_of, input_columns, input_headings, input_paths, inputs_at, text_headings}
+use Rattle.run_jobs.specs.InputFiles.{input_limit, text_name}
+use Rattle.replay_files.specs.declared.replay.Replay.{Replay}
+use Rattle.replay_files.specs.declared.replay.Way.TheVariants as way
+use Rattle.replay_files.specs.modes.Apply.{AreLaterFiles, HoldInputs, IsApplyDue, apply_of, columns_by, of_choice, table_inputs, tables_asked}
+use Rattle.run_jobs.proofs.ColumnLemmas.{accepted, names-ascii}
+use Rattle.replay_files.proofs.KeyedTextLemmas.{IsKeyedOf, chosen-within, columns-are, columns_at, format_is, input_columns-ascii, inputs-keyed, later-rows, some-csvs, texts-read}
+use Rattle.replay_files.proofs.ChunkLemmas.{chunk}
+use Rattle.replay_files.proofs.ApplyLemmas.{due_asked}
+use Rattle.replay_files.proofs.ReplayLemmas.{long_behind, read_and_made}
 use Rattle.pdgf_run.proofs.CarriedLemmas.{Carried, Gives, Refuses, carried_gives, due_carried, refused_gives}
+use Rattle.run_jobs.proofs.PageLemmas.{delimits}
 
 -- ---- what is asked is within the plan
 
@@ -238,13 +237,6 @@ later_due plan r files table delimits is_accepted limits asked hold =
     there (Some place) chosen = chosen_within plan r.table place chosen
 
 -- ---- the verdict
-
-pub delimits : (plan : Project) → IsDelimiter (layout_of plan).delimiter
-delimits plan = of_delimiter plan.schema.delimiter
-  where
-    of_delimiter : (delimiter : Delimiter) → IsDelimiter (delimiter_byte delimiter)
-    of_delimiter Tab = inl refl
-    of_delimiter Bar = inr refl
 
 of_asked : (words : List (List ℕ)) (files : List File) (r : Request) (plan : Project) (asked : Result (Option ℕ) JobFault) (verdict : Result (List File) Refusal) (report : Report)
     (before now : Option Held) → request words ≡ Ok r → r.mode ≡ Apply → plan_in files r.schema ≡ Ok plan → tables_asked plan r ≡ asked → IsInLimits plan →

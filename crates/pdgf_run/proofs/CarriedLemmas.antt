@@ -19,12 +19,13 @@ use Rattle.row_text.specs.Fields.{IsDelimiter}
 use Rattle.schema_facts.specs.Dictionaries.{Project}
 use Rattle.schema_facts.specs.Layout.{layout_of}
 use Rattle.schema_plan.specs.Limits.{IsInLimits}
-use Rattle.pdgf_run.specs.Jobs.{due_of}
-use Rattle.pdgf_run.specs.Playing.{IsTaskOf, is_playing, task_due}
+use Rattle.run_jobs.specs.Jobs.{due_of}
+use Rattle.fill_jobs.specs.Playing.{IsTaskOf, is_playing, task_due}
 use Rattle.pdgf_run.specs.ReadingList.{reads_schema}
 use Rattle.pdgf_run.specs.TopCall.{Carries}
-use Rattle.pdgf_run.specs.Verdict.{IsDecided, IsInMode, IsJobOver, IsPlanned, IsVerdict, WhereUnread, plan_by}
-use Rattle.pdgf_run.specs.declared.job.Task.{Task}
+use Rattle.run_jobs.specs.Outcome.{IsDecided}
+use Rattle.pdgf_run.specs.Verdict.{IsInMode, IsJobOver, IsPlanned, IsVerdict, WhereUnread, plan_by}
+use Rattle.run_jobs.specs.declared.job.Task.{Task}
 use Rattle.pdgf_run.specs.declared.report.Report.{Report}
 use Rattle.pdgf_run.proofs.TaskLemmas.{plays_no_other}
 use Rattle.pdgf_run.proofs.DecideLemmas.{of_words}

@@ -1,8 +1,7 @@
 -- What words come to, as it is found.
-use Rattle.std.proofs.Common.{◌≡◌, ◌≢◌, ◌≤◌, ◌+◌, ℕ, Bool, false, true, List, [], ◌∷◌, ◌++◌, append-nil, append_assoc, drop, length, length-append, take, Option, None, Some, Result, Ok, Err, inl, inr, refl, ap, sym, subst, ◌∙◌, arith}
+use Rattle.std.proofs.Common.{◌≡◌, ◌≢◌, ◌≤◌, ◌+◌, ℕ, Bool, false, true, List, [], ◌∷◌, ◌++◌, append-nil, length, length-append, Option, None, Some, Result, Ok, Err, inl, inr, refl, ap, sym, subst, ◌∙◌, arith}
 use Rattle.std.specs.Prelude.{◌⊎◌, IfErr, IfOk, IfSome, IsErr, OnOk, if◌then◌else◌, ◌↔◌}
 use Rattle.std.specs.Option.{option_map}
-use Rattle.std.proofs.lemmas.List.{take-append-drop}
 use Rattle.dictionaries.specs.WordList.{WordList}
 use Rattle.pd_outside.proofs.Counts.{failed_then, unfailed_same, unfailed_then}
 use Rattle.pd_outside.specs.Faults.{Counts, Unfailed}
@@ -12,7 +11,7 @@ use Rattle.plan_stages.specs.DictionaryFiles.{names_of}
 use Rattle.plan_stages.specs.PlanNames.{AskedAlone, AsksForPlan, PlanRead, cited_by, plan_names, possible_names}
 use Rattle.plan_stages.specs.Plans.{limit_at, plan_in}
 use Rattle.plan_stages.specs.Stages.{ended, in_stage, told_files, Decides, IsReadOut, LibraryAfter}
-use Rattle.plan_stages.proofs.DictionaryLemmas.{IfSome-same, asked_also, asked_first}
+use Rattle.plan_stages.proofs.DictionaryLemmas.{IfSome-same}
 use Rattle.refusals.specs.Statuses.{is_free, job_status, plan_status, status_of}
 use Rattle.refusals.specs.declared.refusal.JobFault.{JobFault}
 use Rattle.refusals.specs.declared.refusal.JobFault.TheVariants as job
@@ -25,15 +24,17 @@ use Rattle.request_words.specs.declared.usage.Mode.{Mode}
 use Rattle.request_words.specs.declared.usage.Request.{Request}
 use Rattle.request_words.specs.declared.usage.UsageFault.{UsageFault}
 use Rattle.request_words.specs.declared.usage.UsageFault.TheVariants as usage
-use Rattle.schema_facts.specs.Dictionaries.{Dictionary, Project, project_of}
+use Rattle.schema_facts.specs.Dictionaries.{Project, project_of}
 use Rattle.schema_plan.specs.Limits.{IsInLimits}
 use Rattle.schema_read.specs.Schema.{schema_of}
-use Rattle.pdgf_run.specs.Playing.{task_due}
-use Rattle.pdgf_run.specs.Details.{lists_named}
+use Rattle.fill_jobs.specs.Playing.{task_due}
+use Rattle.run_jobs.specs.Details.{lists_named}
 use Rattle.pdgf_run.specs.ReadingList.{AsksInMode, AsksInTurn, Possible, names_behind, names_in_mode, possible_behind, possible_in_mode, possible_list, project_with_words, reading_list, reads_schema}
-use Rattle.pdgf_run.specs.TopCall.{IsLimitOf, IsLimitRefused, IsLimitTold, LibraryDone, LibraryLeft, reads_for}
-use Rattle.pdgf_run.specs.Verdict.{IsDecided, IsInMode, IsJobOver, IsOfRequest, IsPlanned, IsVerdict, plan_by}
-use Rattle.pdgf_run.specs.declared.job.Task.{Task}
+use Rattle.run_jobs.specs.Outcome.{IsLimitOf, IsLimitTold, LibraryDone, LibraryLeft, IsDecided}
+use Rattle.pdgf_run.specs.TopCall.{IsLimitRefused, reads_for}
+use Rattle.pdgf_run.specs.Verdict.{IsInMode, IsJobOver, IsOfRequest, IsPlanned, IsVerdict, plan_by}
+use Rattle.run_jobs.specs.declared.job.Task.{Task}
+use Rattle.run_jobs.proofs.AskedNameLemmas.{first_of_more, words_read, asked_then}
 
 -- ---- words that give no request
 
@@ -261,12 +262,6 @@ in_turn r told held before now reads asks possible = record {
       possible;
 }
 
--- the first of some names are the first of more
-pub first_of_more : (list more : List (List ℕ)) (before now : Option (List (List ℕ))) → AskedPrefixOf list before now → AskedPrefixOf (list ++ more) before now
-first_of_more list more before now asks =
-    asked_first (list ++ more) (take asks.count list) (drop asks.count list ++ more) before now asks.asked
-    (ap (λ (l : List (List ℕ)). l ++ more) (sym (take-append-drop asks.count list)) ∙ append_assoc (take asks.count list) (drop asks.count list) more)
-
 -- what its schema's name asks for, a request does
 asks_told : (r : Request) (told : Option (List File)) (before now : Option (List (List ℕ))) → IfSome told (λ (f : List File). AskedPrefixOf (plan_names f r.schema) before now) →
     IfSome told (λ (f : List File). AskedPrefixOf (plan_names f r.schema ++ names_behind r f (plan_in f r.schema)) before now)
@@ -283,23 +278,6 @@ asks_of_schema r told before now reads asks =
 pub asks_of_name : (r : Request) (name : List ℕ) (told : Option (List File)) (before now : Option (List (List ℕ))) → reads_schema r.mode ≡ true → name ≡ r.schema →
     AsksForPlan name told before now → AsksInTurn (Ok r) told before now
 asks_of_name r name told before now reads is asks = asks_of_schema r told before now reads (subst (λ (n : List ℕ). AsksForPlan n told before now) is asks)
-
--- word lists that were read have the names that were asked for, and some words
-pub words_read : (names : List (List ℕ)) (lists : List Dictionary) → names_of lists ≡ names → (words : List WordList) × (lists_named names words ≡ lists)
-words_read names [] are = ([], subst (λ (ns : List (List ℕ)). lists_named ns [] ≡ []) are refl)
-words_read names (list ∷ lists) are =
-    let rest = words_read (names_of lists) lists refl in (
-      list.words ∷ rest.0,
-      subst (λ (ns : List (List ℕ)). lists_named ns (list.words ∷ rest.0) ≡ list ∷ lists) are (ap (λ (ls : List Dictionary). list ∷ ls) rest.1),
-    )
-
--- names that were asked, and then the first of others
-pub asked_then : (first list : List (List ℕ)) (before mid now : Option (List (List ℕ))) → mid ≡ option_map (λ names. names ++ first) before → AskedPrefixOf list mid now →
-    AskedPrefixOf (first ++ list) before now
-asked_then first list before mid now once more =
-    asked_first (first ++ list) (first ++ take more.count list) (drop more.count list) before now
-    (more.asked ∙ ap (option_map (λ (names : List (List ℕ)). names ++ take more.count list)) once ∙ asked_also first (take more.count list) before)
-    (ap (λ (l : List (List ℕ)). first ++ l) (sym (take-append-drop more.count list)) ∙ sym (append_assoc first (take more.count list) (drop more.count list)))
 
 asks_then_told : (r : Request) (plan : Project) (told : Option (List File)) (possible : List (List ℕ)) (before mid now : Option (List (List ℕ))) →
     IfSome told (λ (f : List File). plan_in f r.schema ≡ Ok plan) → IfSome told (λ (f : List File). plan_names f r.schema ≡ possible) →

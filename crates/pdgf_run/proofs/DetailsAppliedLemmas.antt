@@ -37,20 +37,22 @@ use Rattle.detail_plan.specs.declared.detail.Detail.{Detail}
 use Rattle.detail_rows.specs.Applying.{detail_streams}
 use Rattle.detail_lines.specs.Lines.{detail_text}
 use Rattle.detail_laws.proofs.ApplyLawLemmas.{units-applied}
-use Rattle.pdgf_run.specs.Details.{declared_of, detail_in, detail_of_text, kept_in, kept_over, kept_with, kept_with_lists, lists_cited, unless_broken}
-use Rattle.pdgf_run.specs.Formats.{made_files}
-use Rattle.pdgf_run.specs.Replay.{AreReplayed, IsMadeOf, IsReplayDue, IsReplayOf, format_of, input_paths, inputs_at, text_name}
+use Rattle.run_jobs.specs.Details.{declared_of, detail_in, detail_of_text, kept_in, kept_over, kept_with, kept_with_lists, lists_cited, unless_broken}
+use Rattle.run_jobs.specs.Formats.{made_files}
+use Rattle.replay_files.specs.Replay.{AreReplayed, IsMadeOf, IsReplayDue, IsReplayOf, format_of, input_paths, inputs_at}
+use Rattle.run_jobs.specs.InputFiles.{text_name}
 use Rattle.pdgf_run.specs.ReadingList.{reads_schema}
 use Rattle.pdgf_run.specs.TopCall.{Carries, GivesLaterDetails}
 use Rattle.pdgf_run.specs.Verdict.{IsInMode, IsVerdict}
-use Rattle.pdgf_run.specs.declared.replay.Replay.{Replay}
-use Rattle.pdgf_run.specs.declared.replay.Way.TheVariants as way
+use Rattle.replay_files.specs.declared.replay.Replay.{Replay}
+use Rattle.replay_files.specs.declared.replay.Way.TheVariants as way
 use Rattle.pdgf_run.specs.declared.report.Report.{Report}
-use Rattle.pdgf_run.specs.modes.DetailsApply.{AreDeclared, AreLaterDetails, HoldDetailInputs, IsDetailsApplyDue, apply_of_detail, detail_asked, detail_inputs}
-use Rattle.pdgf_run.proofs.AppliedLemmas.{all_read, delimits, not_less, passes}
+use Rattle.replay_files.specs.modes.DetailsApply.{AreDeclared, AreLaterDetails, HoldDetailInputs, IsDetailsApplyDue, apply_of_detail, detail_asked, detail_inputs}
+use Rattle.pdgf_run.proofs.AppliedLemmas.{all_read, not_less, passes}
+use Rattle.run_jobs.proofs.PageLemmas.{delimits}
 use Rattle.pdgf_run.proofs.CarriedLemmas.{Carried, Gives, Refuses, carried_gives, due_carried, refused_gives}
-use Rattle.pdgf_run.proofs.ChunkLemmas.{chunk}
-use Rattle.pdgf_run.proofs.ReplayLemmas.{read_and_made}
+use Rattle.replay_files.proofs.ChunkLemmas.{chunk}
+use Rattle.replay_files.proofs.ReplayLemmas.{read_and_made}
 
 -- ---- a detail table that is declared keeps its rules
 

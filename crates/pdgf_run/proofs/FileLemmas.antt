@@ -5,7 +5,7 @@ use Rattle.std.specs.Option.{option_map}
 use Rattle.pd_outside.specs.Files.{File}
 use Rattle.pd_outside.specs.Shelf.{HoldsPrefixOf, Held, finish_files}
 use Rattle.range_workers.proofs.WriteLemmas.{finished_then, next_in_part}
-use Rattle.pdgf_run.specs.Formats.{named_files}
+use Rattle.run_jobs.specs.Formats.{named_files}
 
 -- the file at a place, with those before it and those behind it
 around : (names texts : List (List ℕ)) (place : ℕ) (name text : List ℕ) → slice_get names place ≡ Some name → slice_get texts place ≡ Some text →

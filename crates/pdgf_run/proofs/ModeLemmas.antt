@@ -13,22 +13,22 @@ use Rattle.request_words.specs.declared.usage.Mode.TheVariants.{Check, Snapshot,
 use Rattle.request_words.specs.declared.usage.Mode.{Mode}
 use Rattle.request_words.specs.declared.usage.Request.{Request}
 use Rattle.schema_facts.specs.Dictionaries.{Project}
-use Rattle.pdgf_run.specs.Jobs.{due_of}
+use Rattle.run_jobs.specs.Jobs.{due_of}
 use Rattle.pdgf_run.specs.ReadingList.{AsksInMode, names_in_mode, possible_in_mode}
-use Rattle.pdgf_run.specs.TopCall.{IsLimitTold, LibraryLeft}
-use Rattle.pdgf_run.specs.Verdict.{IsDecided, IsInMode}
-use Rattle.pdgf_run.specs.modes.Apply.{paths_asked, paths_possible}
+use Rattle.run_jobs.specs.Outcome.{IsLimitTold, LibraryLeft, IsDecided}
+use Rattle.pdgf_run.specs.Verdict.{IsInMode}
+use Rattle.replay_files.specs.modes.Apply.{paths_asked, paths_possible}
 use Rattle.pdgf_run.specs.modes.Check.{check_due}
-use Rattle.pdgf_run.specs.Details.{declaration_names, possible_declaration, AsksForDetails}
-use Rattle.pdgf_run.specs.modes.Details.{details_due}
-use Rattle.pdgf_run.specs.modes.DetailsApply.{details_apply_asked, details_apply_possible}
-use Rattle.pdgf_run.specs.modes.Revert.{undo_paths_asked, undo_paths_possible}
+use Rattle.run_jobs.specs.Details.{declaration_names, possible_declaration, AsksForDetails}
+use Rattle.run_jobs.specs.modes.Details.{details_due}
+use Rattle.replay_files.specs.modes.DetailsApply.{details_apply_asked, details_apply_possible}
+use Rattle.replay_files.specs.modes.Revert.{undo_paths_asked, undo_paths_possible}
 use Rattle.pdgf_run.specs.modes.Row.{row_due}
-use Rattle.pdgf_run.specs.modes.Snapshot.{IsSnapshotDue}
-use Rattle.pdgf_run.specs.modes.Unit.{IsUnitDue}
-use Rattle.pdgf_run.specs.declared.job.Job.{Job}
-use Rattle.pdgf_run.specs.declared.job.Told.TheVariants.{Changes, Text}
-use Rattle.pdgf_run.proofs.ReplayLemmas.{left_alone}
+use Rattle.table_jobs.specs.modes.Snapshot.{IsSnapshotDue}
+use Rattle.table_jobs.specs.modes.Unit.{IsUnitDue}
+use Rattle.run_jobs.specs.declared.job.Job.{Job}
+use Rattle.run_jobs.specs.declared.job.Told.TheVariants.{Changes, Text}
+use Rattle.replay_files.proofs.ReplayLemmas.{left_alone}
 
 -- ---- what it answers
 

@@ -25,22 +25,22 @@ use Rattle.update_box.specs.Packages.{chosen_places}
 use Rattle.update_box.specs.Parts.{parts_of}
 use Rattle.update_box.specs.declared.parts.Content.{Content}
 use Rattle.update_box.specs.declared.parts.Job.{Job}
-use Rattle.pdgf_run.specs.CsvFiles.{IsCsvAsked, IsCsvUnless, IsDueIn, csv_limit, job_headings, texts_asked}
-use Rattle.pdgf_run.specs.DueFiles.{contents_of, most_page_bytes, package_of, page_bytes, text_files}
-use Rattle.pdgf_run.specs.Formats.{each_after, file_name, made_files}
-use Rattle.pdgf_run.specs.declared.job.Told.{Told}
-use Rattle.pdgf_run.specs.declared.job.Told.TheVariants.{Changes, Text}
-use Rattle.pdgf_run.specs.modes.Apply.{apply_of, tables_asked}
-use Rattle.pdgf_run.specs.modes.Sample.{IsLaterText, IsSampleUnless, later_units, summary_of, text_and_changes}
+use Rattle.run_jobs.specs.CsvFiles.{IsCsvAsked, IsCsvUnless, IsDueIn, csv_limit, job_headings, texts_asked}
+use Rattle.run_jobs.specs.DueFiles.{contents_of, most_page_bytes, package_of, page_bytes, text_files}
+use Rattle.run_jobs.specs.Formats.{each_after, file_name, made_files}
+use Rattle.run_jobs.specs.declared.job.Told.{Told}
+use Rattle.run_jobs.specs.declared.job.Told.TheVariants.{Changes, Text}
+use Rattle.replay_files.specs.modes.Apply.{apply_of, tables_asked}
+use Rattle.table_jobs.specs.modes.Sample.{IsLaterText, IsSampleUnless, later_units, summary_of, text_and_changes}
 use Rattle.detail_plan.specs.Kept.{Kept}
 use Rattle.refusals.specs.declared.refusal.DetailsCause.{DetailsCause}
-use Rattle.pdgf_run.specs.Details.{detail_in}
-use Rattle.pdgf_run.specs.modes.DetailsApply.{AreDeclared, apply_of_detail, detail_asked}
-use Rattle.pdgf_run.specs.modes.Revert.{revert_of, tables_reverted}
-use Rattle.pdgf_run.specs.modes.Snapshot.{snapshot_asked}
-use Rattle.pdgf_run.specs.modes.Unit.{unit_asked}
-use Rattle.pdgf_run.proofs.ReplayOutcomeLemmas.{one_replay, one_text}
-use Rattle.pdgf_run.proofs.CsvLemmas.{one_image, one_written}
+use Rattle.run_jobs.specs.Details.{detail_in}
+use Rattle.replay_files.specs.modes.DetailsApply.{AreDeclared, apply_of_detail, detail_asked}
+use Rattle.replay_files.specs.modes.Revert.{revert_of, tables_reverted}
+use Rattle.table_jobs.specs.modes.Snapshot.{snapshot_asked}
+use Rattle.table_jobs.specs.modes.Unit.{unit_asked}
+use Rattle.replay_files.proofs.ReplayOutcomeLemmas.{one_replay, one_text}
+use Rattle.run_jobs.proofs.CsvLemmas.{one_image, one_written}
 
 -- ---- a request
 

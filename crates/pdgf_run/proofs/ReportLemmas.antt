@@ -9,9 +9,9 @@ use Rattle.plan_stages.specs.Limits.{dictionary_limit}
 use Rattle.plan_stages.specs.Plans.{limit_at}
 use Rattle.refusals.specs.Messages.{cause_text, details_text, input_text, message_line, message_of, plan_fault_text}
 use Rattle.refusals.specs.Statuses.{cause_status, details_status, input_cause_status, plan_status, status_of}
-use Rattle.pdgf_run.specs.Details as declaration
+use Rattle.run_jobs.specs.Details as declaration
 use Rattle.pdgf_run.specs.TopCall.{IsLimitOfRefusal, IsPastLimit}
-use Rattle.pdgf_run.specs.Replay.{input_limit}
+use Rattle.run_jobs.specs.InputFiles.{input_limit}
 use Rattle.refusals.specs.declared.refusal.DetailsCause.{DetailsCause}
 use Rattle.refusals.specs.declared.refusal.DetailsCause.TheVariants as details
 use Rattle.refusals.specs.declared.refusal.DictionaryCause.{DictionaryCause}

@@ -9,11 +9,11 @@ use Rattle.stream_apply.specs.InTurn.{IsAppliedText}
 use Rattle.stream_apply.specs.declared.key_fields.KeyFields.TheVariants.{One}
 use Rattle.undo_streams.specs.InTurn.{IsRevertedText}
 use Rattle.update_box.proofs.ApplyLawLemmas.{units-applied}
-use Rattle.pdgf_run.specs.UndoLaws.{undo_texts}
-use Rattle.pdgf_run.specs.modes.Apply.{table_inputs}
-use Rattle.pdgf_run.proofs.AppliedLemmas.{delimits}
-use Rattle.pdgf_run.proofs.ReplayOutcomeLemmas.{one_text}
-use Rattle.pdgf_run.proofs.UndoLawLemmas.{units-reverted}
+use Rattle.replay_files.specs.UndoLaws.{undo_texts}
+use Rattle.replay_files.specs.modes.Apply.{table_inputs}
+use Rattle.run_jobs.proofs.PageLemmas.{delimits}
+use Rattle.replay_files.proofs.ReplayOutcomeLemmas.{one_text}
+use Rattle.replay_files.proofs.UndoLawLemmas.{units-reverted}
 
 -- streams make one text, which is the later one, and from that the undo texts lead back
 pub reverted-after : (plan : Project) → IsInLimits plan → (place : ℕ) → place < length plan.schema.tables → (from count : ℕ) → from + count ≤ last_unit plan → (made : List ℕ) →

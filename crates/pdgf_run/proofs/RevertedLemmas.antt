@@ -24,23 +24,25 @@ use Rattle.undo_streams.specs.InTurn.{IsRevertedText}
 use Rattle.update_box.specs.Packages.{chosen_places}
 use Rattle.update_box.specs.Parts.{name_at}
 use Rattle.request_words.specs.declared.usage.Format.TheVariants.{Copy}
-use Rattle.pdgf_run.specs.DueFiles.{chosen_table}
+use Rattle.run_jobs.specs.DueFiles.{chosen_table}
 use Rattle.pdgf_run.specs.ReadingList.{reads_schema}
 use Rattle.pdgf_run.specs.TopCall.{Carries, GivesEarlier}
-use Rattle.pdgf_run.specs.UndoLaws.{undo_texts}
+use Rattle.replay_files.specs.UndoLaws.{undo_texts}
 use Rattle.pdgf_run.specs.Verdict.{IsInMode, IsVerdict}
 use Rattle.pdgf_run.specs.declared.report.Report.{Report}
-use Rattle.pdgf_run.specs.Formats.{made_files}
-use Rattle.pdgf_run.specs.Replay.{AreReplayed, IsMadeOf, input_paths, inputs_at, text_name}
-use Rattle.pdgf_run.specs.declared.replay.Replay.{Replay}
-use Rattle.pdgf_run.specs.declared.replay.Way.TheVariants as way
-use Rattle.pdgf_run.specs.modes.Revert.{AreEarlierFiles, HoldUndoInputs, IsRevertDue, revert_of, tables_reverted, undo_inputs}
-use Rattle.pdgf_run.proofs.AppliedLemmas.{all_read, choice_is, chosen_within, delimits, not_less, passes, place_within}
-use Rattle.pdgf_run.proofs.ChunkLemmas.{chunk}
+use Rattle.run_jobs.specs.Formats.{made_files}
+use Rattle.replay_files.specs.Replay.{AreReplayed, IsMadeOf, input_paths, inputs_at}
+use Rattle.run_jobs.specs.InputFiles.{text_name}
+use Rattle.replay_files.specs.declared.replay.Replay.{Replay}
+use Rattle.replay_files.specs.declared.replay.Way.TheVariants as way
+use Rattle.replay_files.specs.modes.Revert.{AreEarlierFiles, HoldUndoInputs, IsRevertDue, revert_of, tables_reverted, undo_inputs}
+use Rattle.pdgf_run.proofs.AppliedLemmas.{all_read, choice_is, chosen_within, not_less, passes, place_within}
+use Rattle.run_jobs.proofs.PageLemmas.{delimits}
+use Rattle.replay_files.proofs.ChunkLemmas.{chunk}
 use Rattle.pdgf_run.proofs.CarriedLemmas.{Carried, Gives, Refuses, carried_gives, due_carried, refused_gives}
-use Rattle.pdgf_run.proofs.ApplyLemmas.{due_asked}
-use Rattle.pdgf_run.proofs.ReplayLemmas.{read_and_made}
-use Rattle.pdgf_run.proofs.UndoLawLemmas.{units-reverted}
+use Rattle.replay_files.proofs.ApplyLemmas.{due_asked}
+use Rattle.replay_files.proofs.ReplayLemmas.{read_and_made}
+use Rattle.replay_files.proofs.UndoLawLemmas.{units-reverted}
 
 -- ---- the inputs of a table among all
 

@@ -11,9 +11,9 @@ use Rattle.request_words.specs.declared.usage.Mode.TheVariants as mode
 use Rattle.request_words.specs.declared.usage.Request.{Request}
 use Rattle.request_words.specs.declared.usage.UsageFault.{UsageFault}
 use Rattle.row_keeper.specs.Store.{Store}
-use Rattle.pdgf_run.specs.Playing.{HasBrokenOff, HasPlayed, IsBrokenOff, IsTaskOf, is_play, is_playing, played_store, plays_for}
-use Rattle.pdgf_run.specs.declared.job.Task.{Task}
-use Rattle.pdgf_run.specs.declared.job.Task.TheVariants as task
+use Rattle.fill_jobs.specs.Playing.{HasBrokenOff, HasPlayed, IsBrokenOff, IsTaskOf, is_play, is_playing, played_store, plays_for}
+use Rattle.run_jobs.specs.declared.job.Task.{Task}
+use Rattle.run_jobs.specs.declared.job.Task.TheVariants as task
 
 is_mode : (m : Mode) → is_play m ≡ true → m ≡ mode.Play
 is_mode mode.Check is = absurd (cc)

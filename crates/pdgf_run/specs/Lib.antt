@@ -1,16 +1,4 @@
-pub mod DueFiles
-pub mod Formats
-pub mod InMemory
-pub mod CsvFiles
-pub mod Details
-pub mod Jobs
-pub mod Joined
-pub mod Playing
 pub mod ReadingList
-pub mod Replay
 pub mod TopCall
 pub mod Verdict
 pub mod modes
-pub mod Sampled
-pub mod SqlFiles
-pub mod UndoLaws

@@ -12,10 +12,10 @@ use Rattle.request_words.specs.declared.usage.UsageFault.{UsageFault}
 use Rattle.schema_model.specs.declared.table.Schema.{Schema}
 use Rattle.schema_facts.specs.Dictionaries.{Project, project_of}
 use Rattle.schema_read.specs.Schema.{schema_of}
-use Rattle.pdgf_run.specs.Details.{declaration_names, lists_named, possible_declaration}
-use Rattle.pdgf_run.specs.modes.Apply.{paths_asked, paths_possible}
-use Rattle.pdgf_run.specs.modes.DetailsApply.{details_apply_asked, details_apply_possible}
-use Rattle.pdgf_run.specs.modes.Revert.{undo_paths_asked, undo_paths_possible}
+use Rattle.run_jobs.specs.Details.{declaration_names, lists_named, possible_declaration}
+use Rattle.replay_files.specs.modes.Apply.{paths_asked, paths_possible}
+use Rattle.replay_files.specs.modes.DetailsApply.{details_apply_asked, details_apply_possible}
+use Rattle.replay_files.specs.modes.Revert.{undo_paths_asked, undo_paths_possible}
 
 -- ---- what words ask for
 

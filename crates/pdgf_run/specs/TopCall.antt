@@ -1,17 +1,12 @@
 -- What the top call promises of its report and of the shelf.
-use Rattle.std.specs.Prelude.{◌≡◌, ◌≢◌, ◌≤◌, ◌⊎◌, ℕ, ◌+◌, Bool, false, true, List, [], IfOk, OnOk, Option, Result, Ok, Err}
+use Rattle.std.specs.Prelude.{◌≡◌, ◌≤◌, ◌⊎◌, ℕ, ◌+◌, Bool, false, List, [], IfOk, OnOk, Option, Result, Ok, Err}
 use Rattle.std.specs.Option.{option_map}
-use Rattle.pd_outside.specs.Faults.{Counts, FailedAtLast, Unfailed}
 use Rattle.pd_outside.specs.Files.{File}
-use Rattle.pd_outside.specs.Library.{Content}
 use Rattle.pd_outside.specs.Shelf.{Held, finish_files}
 use Rattle.plan_stages.specs.Limits.{dictionary_limit, schema_limit}
-use Rattle.plan_stages.specs.Plans.{limit_at, plan_in}
-use Rattle.plan_stages.specs.Stages.{IsReadOut, told_files}
+use Rattle.plan_stages.specs.Plans.{plan_in}
 use Rattle.refusals.specs.Messages as text
 use Rattle.refusals.specs.Statuses as status
-use Rattle.refusals.specs.declared.refusal.JobFault.TheVariants as job
-use Rattle.refusals.specs.declared.refusal.JobFault.{JobFault}
 use Rattle.refusals.specs.declared.refusal.Refusal.{Refusal}
 use Rattle.refusals.specs.declared.refusal.Refusal.TheVariants as refusal
 use Rattle.request_words.specs.declared.usage.Request.{Request}
@@ -19,13 +14,13 @@ use Rattle.request_words.specs.declared.usage.UsageFault.{UsageFault}
 use Rattle.schema_facts.specs.Dictionaries.{Project}
 use Rattle.detail_plan.specs.Kept.{Kept}
 use Rattle.pdgf_run.specs.declared.report.Report.{Report}
-use Rattle.pdgf_run.specs.Details as details
-use Rattle.pdgf_run.specs.Details.{detail_in}
+use Rattle.run_jobs.specs.Details.{detail_in}
 use Rattle.pdgf_run.specs.ReadingList.{reads_schema}
-use Rattle.pdgf_run.specs.Replay.{input_limit}
-use Rattle.pdgf_run.specs.modes.Apply.{AreLaterFiles, HoldInputs, tables_asked}
-use Rattle.pdgf_run.specs.modes.DetailsApply.{AreLaterDetails, HoldDetailInputs, detail_asked}
-use Rattle.pdgf_run.specs.modes.Revert.{AreEarlierFiles, HoldUndoInputs, tables_reverted}
+use Rattle.run_jobs.specs.InputFiles.{input_limit}
+use Rattle.replay_files.specs.modes.Apply.{AreLaterFiles, HoldInputs, tables_asked}
+use Rattle.replay_files.specs.modes.DetailsApply.{AreLaterDetails, HoldDetailInputs, detail_asked}
+use Rattle.replay_files.specs.modes.Revert.{AreEarlierFiles, HoldUndoInputs, tables_reverted}
+use Rattle.run_jobs.specs.Outcome.{IsLimitOf}
 
 -- The report is the verdict's: the due files were finished, in order, and none is begun; or the shelf is as it was.
 abbrev pub Carries : Result (List File) Refusal → Report → Option Held → Option Held → Type 0
@@ -33,19 +28,6 @@ Carries (Ok due) report before now =
     (report ≡ record { status = status.done_status; message = [] }) × (now ≡ option_map (finish_files due) before)
 Carries (Err refusal) report before now =
     (report ≡ record { status = status.status_of refusal; message = text.message_of refusal }) × (now ≡ before)
-
--- a limit of the file that a fault tells as too long: that of the schema's text, of a dictionary or of a declaration, or, of an input, what those before it
--- leave of the limit of all
-abbrev pub IsLimitOf : JobFault → ℕ → Type 0
-IsLimitOf (job.Plan fault) limit = limit ≡ limit_at fault
-IsLimitOf (job.Range name) limit = ⊥
-IsLimitOf (job.Input fault) limit = limit ≤ input_limit
-IsLimitOf (job.Details cause) limit = limit ≡ details.limit_at cause
-IsLimitOf job.Memory limit = ⊥
-
-abbrev pub IsLimitTold : {A : Type 0} → Result A JobFault → ℕ → Type 0
-IsLimitTold (Ok answer) limit = ⊥
-IsLimitTold (Err fault) limit = IsLimitOf fault limit
 
 abbrev pub IsLimitOfRefusal : Refusal → ℕ → Type 0
 IsLimitOfRefusal (refusal.Words fault) limit = ⊥
@@ -62,25 +44,6 @@ IsPastLimit message taken =
     ⊎ (((number : ℕ) × ((message ≡ text.dictionary_too_long_text number) × (taken ≡ dictionary_limit + 1)))
     ⊎ (((name : List ℕ) × (limit : ℕ) × (limit ≤ input_limit) × (message ≡ text.input_too_long_text name) × (taken ≡ limit + 1))
     ⊎ ((message ≡ text.details_too_long_text) × (taken ≡ schema_limit + 1))))
-
--- What a request that ends with a status leaves of the library, where it reads a schema or none: the files that are told, what is now left, how many bytes were taken of
--- the last file, whether one is started, and what is told of failed calls.
-pub record LibraryDone (reads : Bool) (status : ℕ) (IsLimit : ℕ → Type 0) (before : Option (List File)) (now : Option Content) (taken : ℕ) (is_started : Bool) (counts_before counts_now : Counts) : Type 0 where
-  -- files stay as they are
-  pub files : told_files now ≡ before
-  -- at the end of all that was read nothing is left
-  pub read_out : reads ≡ true → status ≡ 0 → IsReadOut now
-  -- a file was too long: a byte more than its limit was taken
-  pub too_long : status ≡ 10 → (limit : ℕ) × IsLimit limit × (taken ≡ limit + 1)
-  -- a read failed: once, and no file is started then; and it is told nowhere else
-  pub failed : status ≡ 5 → FailedAtLast counts_before counts_now
-  pub stopped : status ≡ 5 → is_started ≡ false
-  pub unfailed : status ≢ 5 → Unfailed counts_before counts_now
-
--- the same where it reads one
-abbrev pub LibraryLeft : ℕ → (ℕ → Type 0) → Option (List File) → Option Content → ℕ → Bool → Counts → Counts → Type 0
-LibraryLeft status IsLimit before now taken is_started counts_before counts_now =
-    LibraryDone true status IsLimit before now taken is_started counts_before counts_now
 
 -- whether words ask for a schema that is read
 abbrev pub reads_for : Result Request UsageFault → Bool

@@ -4,7 +4,6 @@ use Rattle.pd_outside.specs.Files.{File}
 use Rattle.pd_outside.specs.Library.{Content}
 use Rattle.plan_stages.specs.Plans.{plan_in}
 use Rattle.plan_stages.specs.Stages.{in_stage, told_files}
-use Rattle.refusals.specs.Statuses.{is_free}
 use Rattle.refusals.specs.declared.refusal.JobFault.{JobFault}
 use Rattle.refusals.specs.declared.refusal.JobFault.TheVariants as job
 use Rattle.refusals.specs.declared.refusal.PlanFault.{PlanFault}
@@ -18,18 +17,18 @@ use Rattle.request_words.specs.declared.usage.UsageFault.{UsageFault}
 use Rattle.sample_tables.specs.Schema.{sample_project}
 use Rattle.schema_facts.specs.Dictionaries.{Project}
 use Rattle.pdgf_run.specs.ReadingList.{reads_schema}
-use Rattle.pdgf_run.specs.modes.Apply.{IsApplyDue}
+use Rattle.replay_files.specs.modes.Apply.{IsApplyDue}
 use Rattle.pdgf_run.specs.modes.Check.{check_due}
-use Rattle.pdgf_run.specs.declared.job.Told.TheVariants.{Changes, Text}
-use Rattle.pdgf_run.specs.modes.Details.{details_due}
-use Rattle.pdgf_run.specs.modes.DetailsApply.{IsDetailsApplyDue}
-use Rattle.pdgf_run.specs.modes.Play.{play_due}
-use Rattle.pdgf_run.specs.modes.Revert.{IsRevertDue}
+use Rattle.run_jobs.specs.declared.job.Told.TheVariants.{Changes, Text}
+use Rattle.run_jobs.specs.modes.Details.{details_due}
+use Rattle.replay_files.specs.modes.DetailsApply.{IsDetailsApplyDue}
+use Rattle.fill_jobs.specs.modes.Play.{play_due}
+use Rattle.replay_files.specs.modes.Revert.{IsRevertDue}
 use Rattle.pdgf_run.specs.modes.Row.{row_due}
-use Rattle.pdgf_run.specs.modes.Sample.{IsSampleOf}
-use Rattle.pdgf_run.specs.modes.Snapshot.{IsSnapshotDue}
-use Rattle.pdgf_run.specs.modes.Undo.{undo_due}
-use Rattle.pdgf_run.specs.modes.Unit.{IsUnitDue}
+use Rattle.table_jobs.specs.modes.Sample.{IsSampleOf}
+use Rattle.table_jobs.specs.modes.Snapshot.{IsSnapshotDue}
+use Rattle.run_jobs.specs.modes.Undo.{undo_due}
+use Rattle.table_jobs.specs.modes.Unit.{IsUnitDue}
 
 -- what a request over a plan and files comes to, by its mode
 abbrev pub IsInMode : Mode → Request → Project → List File → Result (List File) JobFault → Type 0
@@ -79,8 +78,3 @@ WhereTold words content Fact =
 -- a fact of the verdict of words that read no file, which no file changes
 abbrev pub WhereUnread : List (List ℕ) → (Result (List File) Refusal → Type 0) → Type 0
 WhereUnread words Fact = (verdict : Result (List File) Refusal) × IsVerdict words [] verdict × Fact verdict
-
--- an answer's value is what things come to, and its fault is, unless its status is one that no definition gives
-abbrev pub IsDecided : {A B F : Type 0} → (F → ℕ) → (A → B) → (Result B F → Type 0) → Result A F → Type 0
-IsDecided status view Is (Ok answer) = Is (Ok (view answer))
-IsDecided status view Is (Err fault) = is_free (status fault) ≡ false → Is (Err fault)

@@ -1,11 +1,2 @@
-pub mod Apply
 pub mod Check
-pub mod Details
-pub mod DetailsApply
-pub mod Play
 pub mod Row
-pub mod Sample
-pub mod Snapshot
-pub mod Undo
-pub mod Unit
-pub mod Revert

@@ -5,18 +5,18 @@ ghost use Rattle.pd_outside.specs.Faults.{FailedAtLast, Unfailed};
 ghost use Rattle.pd_outside.specs.Shelf.{HoldsPrefixOf};
 ghost use Rattle.refusals.specs.Messages.{fixed_text};
 ghost use Rattle.refusals.specs.Statuses.{is_status};
-ghost use Rattle.pdgf_run.specs.Jobs.{CanFill, due_of, is_text};
-ghost use Rattle.pdgf_run.specs.Playing.{CanDo, HasBrokenOff, HasPlayed, is_playing, task_due};
+ghost use Rattle.run_jobs.specs.Jobs.{CanFill, due_of, is_text};
+ghost use Rattle.fill_jobs.specs.Playing.{CanDo, HasBrokenOff, HasPlayed, is_playing, task_due};
 ghost use Rattle.pdgf_run.specs.TopCall.{Carries};
 
 use crate::fill::fill;
-use crate::job::{Job, Task};
-use crate::play::{PlayFault, played};
 use crate::report::{done, keeper_failed, refused, write_failed};
 use crate::{JobFault, Refusal, Report};
+use fill_jobs::play::{PlayFault, played};
 use pd_outside::{Gate, Shelf};
 use range_workers::RunFault;
 use row_keeper::Keeper;
+use run_jobs::job::{Job, Task};
 use std::alloc::Global;
 use std::thread::Threads;
 

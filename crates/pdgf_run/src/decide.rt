@@ -9,25 +9,26 @@ ghost use Rattle.refusals.specs.Statuses.{is_free, job_status, status_of};
 ghost use Rattle.request_words.specs.Ranges.{AreWithinRanges};
 ghost use Rattle.request_words.specs.Words.{request};
 ghost use Rattle.schema_plan.specs.Limits.{IsInLimits};
-ghost use Rattle.pdgf_run.specs.Playing.{CanDo, IsTaskOf, IsTaskOver, task_due};
+ghost use Rattle.fill_jobs.specs.Playing.{CanDo, IsTaskOf, IsTaskOver, task_due};
 ghost use Rattle.pdgf_run.specs.ReadingList.{AsksInMode, AsksInTurn, reads_on, reads_schema};
-ghost use Rattle.pdgf_run.specs.TopCall.{IsLimitRefused, IsLimitTold, LibraryDone, LibraryLeft, reads_for};
-ghost use Rattle.pdgf_run.specs.Verdict.{IsDecided, IsInMode, IsJobOver, IsPlanned, IsVerdict};
-ghost use Rattle.pdgf_run.specs.Replay.{input_limit};
+ghost use Rattle.pdgf_run.specs.TopCall.{IsLimitRefused, reads_for};
+ghost use Rattle.run_jobs.specs.Outcome.{IsLimitTold, LibraryDone, LibraryLeft, IsDecided};
+ghost use Rattle.pdgf_run.specs.Verdict.{IsInMode, IsJobOver, IsPlanned, IsVerdict};
+ghost use Rattle.run_jobs.specs.InputFiles.{input_limit};
 
-use crate::job::Task;
 use crate::modes::job_of;
-use crate::modes::play::plan_play;
-use crate::modes::sample::plan_sample;
+use fill_jobs::modes::play::plan_play;
 use pd_outside::{Gate, Library};
 use plan_stages::plan_of;
 use refusals::{JobFault, Refusal};
 use request_words::{Mode, Request, UsageFault, read_words};
+use run_jobs::job::Task;
 use schema_plan::Plan;
 use std::alloc::Global;
 use std::marker::Brand;
 use std::sync::ledger::Blank;
 use std::thread::Threads;
+use table_jobs::modes::sample::plan_sample;
 
 /// Decides what the words come to: a task, or why there is none. Only names of the reading list are started.
 pub(crate) fn decide<R: Threads + Sync, L: Library, G: Gate + Sync>(

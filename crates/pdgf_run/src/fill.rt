@@ -1,33 +1,21 @@
 //! Writing the files of a job onto a shelf.
 
-ghost use Rattle.std.specs.Prelude.{◌≡◌, ◌≤◌, ◌⊎◌, [], ◌∷◌, false, true, length, IsErrOf, OnErr, OnOk};
-ghost use Rattle.std.specs.Option.{option_copied, option_map};
+ghost use Rattle.std.specs.Prelude.{◌≡◌, [], ◌∷◌, false, true, length, IsErrOf, OnErr, OnOk};
+ghost use Rattle.std.specs.Option.{option_map};
 ghost use Rattle.pd_outside.specs.Faults.{FailedAtLast, Unfailed};
 ghost use Rattle.pd_outside.specs.Shelf.{HoldsPrefixOf, finish_files};
-ghost use Rattle.pdgf_run.specs.Jobs.{due_of, is_text, CanFill};
-ghost use Rattle.pdgf_run.specs.Formats.{named_files};
+ghost use Rattle.run_jobs.specs.Jobs.{due_of, is_text, CanFill};
+ghost use Rattle.run_jobs.specs.Formats.{named_files};
 
-use crate::job::{FilesJob, Job};
-use crate::modes::{details, snapshot, undo, unit};
-use crate::sql;
+use fill_jobs::modes::details;
+use fill_jobs::sql;
 use pd_outside::{Failed, Gate, Shelf, WriteFailed, write_all};
 use range_workers::RunFault;
-use schema_model::Text as Name;
+use run_jobs::job::{FilesJob, Job};
+use run_jobs::outputs::STANDARD_OUTPUT;
 use std::alloc::Global;
 use std::thread::Threads;
-
-/// The name of the standard output.
-pub(crate) const STANDARD_OUTPUT: &str = "-";
-
-/// Returns the name of a directory, if there is one.
-pub(crate) fn name_of(name: &Option<Name>) -> Option<&str>
-    ensures { option_copied result ≡ name.now }
-{
-    match name {
-        None => None,
-        Some(name) => Some(name.as_str()),
-    }
-}
+use table_jobs::modes::{snapshot, undo, unit};
 
 /// Writes bytes to a file with a name.
 fn write_file<S: Shelf>(shelf: &mut S, name: &str, bytes: &[u8]) -> Result<(), RunFault>

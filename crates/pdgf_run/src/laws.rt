@@ -11,9 +11,9 @@ ghost use Rattle.row_lines.specs.Lines.{table_text};
 ghost use Rattle.stream_apply.specs.InTurn.{IsAppliedText};
 ghost use Rattle.stream_apply.specs.declared.key_fields.KeyFields.TheVariants.{One};
 ghost use Rattle.undo_streams.specs.InTurn.{IsRevertedText};
-ghost use Rattle.pdgf_run.specs.UndoLaws.{undo_texts};
+ghost use Rattle.replay_files.specs.UndoLaws.{undo_texts};
 ghost use Rattle.pdgf_run.specs.Verdict.{IsVerdict};
-ghost use Rattle.pdgf_run.specs.modes.Apply.{table_inputs};
+ghost use Rattle.replay_files.specs.modes.Apply.{table_inputs};
 
 /// Words and files come to only one verdict.
 pub fn words_and_files_have_one_verdict()

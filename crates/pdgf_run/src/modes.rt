@@ -7,33 +7,27 @@ ghost use Rattle.plan_stages.specs.Stages.{ended, told_files, IsReadOut};
 ghost use Rattle.refusals.specs.Statuses.{job_status};
 ghost use Rattle.request_words.specs.Ranges.{AreWithinRanges};
 ghost use Rattle.request_words.specs.declared.usage.Mode.TheVariants.{Play};
-ghost use Rattle.pdgf_run.specs.Jobs.{due_of, CanFill};
+ghost use Rattle.run_jobs.specs.Jobs.{due_of, CanFill};
 ghost use Rattle.pdgf_run.specs.ReadingList.{AsksInMode, reads_on, reads_schema};
-ghost use Rattle.pdgf_run.specs.TopCall.{IsLimitTold, LibraryLeft};
-ghost use Rattle.pdgf_run.specs.Verdict.{IsDecided, IsInMode};
-ghost use Rattle.pdgf_run.specs.Replay.{input_limit};
+ghost use Rattle.run_jobs.specs.Outcome.{IsLimitTold, LibraryLeft, IsDecided};
+ghost use Rattle.pdgf_run.specs.Verdict.{IsInMode};
+ghost use Rattle.run_jobs.specs.InputFiles.{input_limit};
 
-mod apply;
 mod check;
-pub(crate) mod details;
-mod details_apply;
-pub(crate) mod play;
-mod revert;
 mod row;
-pub(crate) mod sample;
-pub(crate) mod snapshot;
-pub(crate) mod undo;
-pub(crate) mod unit;
 
-use crate::job::{Job, Told};
+use fill_jobs::modes::details;
 use pd_outside::{Gate, Library};
 use refusals::JobFault;
+use replay_files::modes::{apply, details_apply, revert};
 use request_words::{Mode, Request};
+use run_jobs::job::{Job, Told};
 use schema_plan::Plan;
 use std::alloc::Global;
 use std::marker::Brand;
 use std::sync::ledger::Blank;
 use std::thread::Threads;
+use table_jobs::modes::{snapshot, undo, unit};
 
 /// Returns the job of a request over a plan of its schema. Some modes read inputs or a declaration; the other modes leave the
 /// library as it is. Files that are due in CSV are made here. If they hold rows, the workers make them, and each package of lines

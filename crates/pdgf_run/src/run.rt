@@ -13,11 +13,11 @@ ghost use Rattle.refusals.specs.Messages.{fixed_text, message_of};
 ghost use Rattle.refusals.specs.Statuses.{is_status};
 ghost use Rattle.request_words.specs.Words.{request};
 ghost use Rattle.request_words.specs.declared.usage.Mode.TheVariants.{Apply, DetailsApply, Revert};
-ghost use Rattle.pdgf_run.specs.Playing.{IsBrokenOff, is_play, played_store, plays_for};
+ghost use Rattle.fill_jobs.specs.Playing.{IsBrokenOff, is_play, played_store, plays_for};
 ghost use Rattle.pdgf_run.specs.ReadingList.{AsksInTurn, reads_on, reads_schema};
 ghost use Rattle.pdgf_run.specs.TopCall.{Carries, GivesEarlier, GivesLater, GivesLaterDetails, IsPastLimit, reads_for};
 ghost use Rattle.pdgf_run.specs.Verdict.{WhereTold, WhereUnread};
-ghost use Rattle.pdgf_run.specs.Replay.{input_limit};
+ghost use Rattle.run_jobs.specs.InputFiles.{input_limit};
 
 use crate::carry_out::carry_out;
 use crate::decide::decide;

@@ -3,7 +3,7 @@
 ghost use Rattle.std.specs.Prelude.{◌≡◌, ◌⊎◌, List, Ok, map, string_bytes, false};
 ghost use Rattle.pd_outside.specs.Files.{File};
 ghost use Rattle.row_keeper.specs.MapKeeper.{keeping_of};
-ghost use Rattle.pdgf_run.specs.Playing.{plays_for};
+ghost use Rattle.fill_jobs.specs.Playing.{plays_for};
 ghost use Rattle.pdgf_run.specs.Verdict.{IsVerdict};
 ghost use Rattle.request_words.specs.Words.{request};
 

@@ -9,7 +9,7 @@ use Rattle.schema_facts.specs.TableFacts.{cost, max_line}
 use Rattle.life_intervals.specs.Generator.{rows_in_all}
 use Rattle.refusals.specs.declared.refusal.JobFault.{JobFault}
 use Rattle.update_box.specs.Parts.{name_at}
-use Rattle.pdgf_run.specs.DueFiles.{text_files}
+use Rattle.run_jobs.specs.DueFiles.{text_files}
 
 -- how long the rows of a table live for sure, as it is told
 abbrev pub life_text : Option ℕ → List ℕ

@@ -10,7 +10,7 @@ use Rattle.refusals.specs.declared.refusal.JobFault.{JobFault}
 use Rattle.refusals.specs.declared.refusal.JobFault.TheVariants.{Range}
 use Rattle.request_words.specs.declared.usage.OptionName.TheVariants as option
 use Rattle.request_words.specs.declared.usage.Request.{Request}
-use Rattle.pdgf_run.specs.DueFiles.{text_files}
+use Rattle.run_jobs.specs.DueFiles.{text_files}
 
 -- the file of the report on a row, where a row has the key
 abbrev pub of_report : Option (List ℕ) → Result (List File) JobFault

@@ -3,15 +3,15 @@
 ghost use Rattle.std.specs.Prelude.{◌≡◌, ◌<◌, ◌∷◌, ◌++◌, ◌⊎◌, [], IfErr, IfOk, IsOk, OnOk, codes, decimal, length};
 ghost use Rattle.plan_stages.specs.Stages.{Decides};
 ghost use Rattle.refusals.specs.Statuses.{job_status};
-ghost use Rattle.pdgf_run.specs.Jobs.{due_of, CanFill};
+ghost use Rattle.run_jobs.specs.Jobs.{due_of, CanFill};
 ghost use Rattle.pdgf_run.specs.modes.Check.{check_due, check_line, check_lines, life_text};
 
-use crate::job::Job;
-use crate::names::name_of;
-use crate::numbers::push_number;
 use life_intervals::born;
 use out_of_memory::Memory;
 use refusals::JobFault;
+use run_jobs::job::Job;
+use run_jobs::names::name_of;
+use run_jobs::numbers::push_number;
 use schema_plan::Plan;
 use std::alloc::Global;
 

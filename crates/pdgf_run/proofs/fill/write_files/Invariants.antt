@@ -2,7 +2,7 @@ use Rattle.std.proofs.Common.{◌≡◌, false, take}
 use Rattle.std.specs.Option.{option_map}
 use Rattle.pd_outside.specs.Faults.{Unfailed}
 use Rattle.pd_outside.specs.Shelf.{finish_files}
-use Rattle.pdgf_run.specs.Formats.{named_files}
+use Rattle.run_jobs.specs.Formats.{named_files}
 use Rattle.pdgf_run.proofs.fill.write_files.Given as goal
 
 abbrev pub invariant-loop-place : goal.invariant-loop-place

@@ -1,4 +1,4 @@
-use Rattle.pdgf_run.proofs.AppliedLemmas.{delimits}
+use Rattle.run_jobs.proofs.PageLemmas.{delimits}
 use Rattle.pdgf_run.proofs.OutcomeLemmas.{one_verdict}
 use Rattle.pdgf_run.proofs.laws.words_and_files_have_one_verdict.Goals as goal
 

@@ -8,7 +8,7 @@ use Rattle.plan_stages.specs.Stages.{told_files}
 use Rattle.refusals.specs.Statuses.{status_of}
 use Rattle.request_words.specs.Words.{request}
 use Rattle.pdgf_run.specs.declared.report.Report.{Report}
-use Rattle.pdgf_run.specs.Playing.{task_due}
+use Rattle.fill_jobs.specs.Playing.{task_due}
 use Rattle.pdgf_run.specs.ReadingList.{reads_on, reads_schema}
 use Rattle.pdgf_run.specs.TopCall.{IsPastLimit}
 use Rattle.pdgf_run.proofs.AppliedLemmas.{applied_carried, applied_refused}

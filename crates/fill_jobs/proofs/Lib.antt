@@ -1,0 +1,4 @@
+pub mod DetailFilesLemmas
+mod DetailTextLemmas
+mod PlayLemmas
+mod SqlLemmas

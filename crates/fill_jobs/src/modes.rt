@@ -1,0 +1,4 @@
+//! The modes whose jobs stand here, each in a file of its own.
+
+pub mod details;
+pub mod play;

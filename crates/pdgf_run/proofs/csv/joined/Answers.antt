@@ -1,5 +1,0 @@
-use Rattle.pdgf_run.proofs.NameLemmas.{joined_more}
-use Rattle.pdgf_run.proofs.csv.joined.Goals as goal
-
-pub loop-place-preserved : goal.loop-place-preserved
-loop-place-preserved c = joined_more c.args.texts.now c.loop-place.place c.get.result.now _ _ c.get.ensures c.loop-place.invariant c.in_ok-extend_from_slice.ensures.items

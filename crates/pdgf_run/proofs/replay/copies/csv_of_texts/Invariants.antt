@@ -1,7 +1,0 @@
-use Rattle.std.proofs.Common.{map, take}
-use Rattle.pdgf_run.specs.Formats.{heading_of}
-use Rattle.pdgf_run.proofs.CsvLemmas.{AreHeaded}
-use Rattle.pdgf_run.proofs.replay.copies.csv_of_texts.Given as goal
-
-abbrev pub invariant-loop-place : goal.invariant-loop-place
-invariant-loop-place l = AreHeaded l.delimiter (take l.place (map (heading_of l.header) l.tables)) (take l.place l.texts) l.csvs

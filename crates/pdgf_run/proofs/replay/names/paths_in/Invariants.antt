@@ -1,6 +1,0 @@
-use Rattle.std.proofs.Common.{◌≡◌, map, take}
-use Rattle.pdgf_run.specs.Formats.{in_directory}
-use Rattle.pdgf_run.proofs.replay.names.paths_in.Given as goal
-
-abbrev pub invariant-loop-place : goal.invariant-loop-place
-invariant-loop-place l = l.paths ≡ map (in_directory l.directory) (take l.place l.names)

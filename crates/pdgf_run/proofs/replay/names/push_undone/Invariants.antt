@@ -1,8 +1,0 @@
-use Rattle.std.proofs.Common.{◌≡◌, ◌-◌, ◌++◌, ◌∷◌}
-use Rattle.pdgf_run.specs.Replay.{text_name, undo_names}
-use Rattle.pdgf_run.proofs.replay.names.push_undone.Given as goal
-
-abbrev pub invariant-loop-step : goal.invariant-loop-step
-invariant-loop-step l =
-    l.names ++ undo_names l.table l.request.to ((l.request.from - l.request.to) - l.step)
-    ≡ l.fn.names ++ (text_name l.fn.format l.table ∷ undo_names l.table l.request.to (l.request.from - l.request.to))

@@ -1,5 +1,0 @@
-use Rattle.std.proofs.Common.{length}
-use Rattle.pdgf_run.proofs.sql.+push_table.Given as goal
-
-abbrev pub decreases-push_table : goal.decreases-push_table
-decreases-push_table l = length l.contents.now

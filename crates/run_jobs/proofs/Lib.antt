@@ -1,0 +1,9 @@
+pub mod AskedLemmas
+pub mod AskedNameLemmas
+pub mod ColumnLemmas
+pub mod CsvLemmas
+pub mod DetailsLemmas
+pub mod JoinedLemmas
+pub mod MoreLemmas
+pub mod PageLemmas
+pub mod RowLemmas

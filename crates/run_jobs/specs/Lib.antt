@@ -1,0 +1,10 @@
+pub mod CsvFiles
+pub mod Details
+pub mod DueFiles
+pub mod Formats
+pub mod InputFiles
+pub mod Jobs
+pub mod Joined
+pub mod Outcome
+pub mod SqlFiles
+pub mod modes

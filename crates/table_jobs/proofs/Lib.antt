@@ -1,0 +1,4 @@
+mod CsvJobLemmas
+pub mod SampleLemmas
+mod TextShelfLemmas
+pub mod UndoLemmas
