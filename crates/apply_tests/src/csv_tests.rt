@@ -23,6 +23,28 @@ fn rows_with_bars_are_written(rt: HostRuntime) {
     assert!(rt; csv.as_slice() == b"7,a|b,c\td\n".as_slice());
 }
 
+/// Lines of more than two blocks that stand alike in CSV but for the commas, with a null in each, then one that doesn't, and one more.
+#[test]
+fn lines_that_stand_alike_are_written(rt: HostRuntime) {
+    let text = b"17\t\\N\ta word\t-3.25\n17\t\\N\ta word\t-3.25\n17\t\\N\ta word\t-3.25\n17\t\\N\ta word\t-3.25\n17\t\\N\ta word\t-3.25\n17\t\\N\ta word\t-3.25\n17\t\\N\ta word\t-3.25\n17\t\\N\ta word\t-3.25\n18\t\\\\N\ta, b\t\\\\\n17\t\\N\ta word\t-3.25\n".as_slice();
+    let csv = to_csv(rt.alloc(), text, b'\t').expect(&rt, "ample memory");
+    assert!(rt;
+        csv.as_slice()
+            == b"17,\\N,a word,-3.25\n17,\\N,a word,-3.25\n17,\\N,a word,-3.25\n17,\\N,a word,-3.25\n17,\\N,a word,-3.25\n17,\\N,a word,-3.25\n17,\\N,a word,-3.25\n17,\\N,a word,-3.25\n18,\\\\N,\"a, b\",\\\\\n17,\\N,a word,-3.25\n".as_slice()
+    );
+}
+
+/// Lines of one empty field, each of which is two quotes in CSV, before, between and after a line of more than a block.
+#[test]
+fn empty_lines_are_written(rt: HostRuntime) {
+    let text = b"\nseventeen seventeen seventeen seventeen seventeen seventeen seventeen seventeen \n\nseventeen seventeen seventeen seventeen seventeen seventeen seventeen seventeen \n".as_slice();
+    let csv = to_csv(rt.alloc(), text, b'\t').expect(&rt, "ample memory");
+    assert!(rt;
+        csv.as_slice()
+            == b"\"\"\nseventeen seventeen seventeen seventeen seventeen seventeen seventeen seventeen \n\"\"\nseventeen seventeen seventeen seventeen seventeen seventeen seventeen seventeen \n".as_slice()
+    );
+}
+
 /// Line ends of two bytes, unneeded quotes, and a last record without a line end.
 #[test]
 fn other_spellings_are_read(rt: HostRuntime) {

@@ -6,3 +6,4 @@ pub mod ReadLemmas
 pub mod BackLemmas
 pub mod NamedLemmas
 pub mod JoinLemmas
+pub mod AlikeLemmas

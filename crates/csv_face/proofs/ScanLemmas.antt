@@ -41,14 +41,14 @@ not_delimiter delimiter byte (inl tab) no_tab no_bar is = no_tab (is ∙ tab)
 not_delimiter delimiter byte (inr bar) no_tab no_bar is = no_bar bar (is ∙ bar)
 
 -- a byte that stands for itself
-plain : (delimiter : ℕ) (fields : List (List ℕ)) (field : List ℕ) (byte : ℕ) (rest : List ℕ) → byte ≢ 92 → byte ≢ delimiter → byte ≢ 10
+pub plain : (delimiter : ℕ) (fields : List (List ℕ)) (field : List ℕ) (byte : ℕ) (rest : List ℕ) → byte ≢ 92 → byte ≢ delimiter → byte ≢ 10
     → records_behind delimiter fields field false (byte ∷ rest) ≡ records_behind delimiter fields (field ++ byte ∷ []) false rest
 unfolding records_behind
 plain delimiter fields field byte rest no_backslash no_delimiter no_line_feed =
     simp (ne_eqb byte 92 no_backslash, ne_eqb byte delimiter no_delimiter, ne_eqb byte 10 no_line_feed) refl
 
 -- a backslash and a letter
-letter-behind : (delimiter : ℕ) (fields : List (List ℕ)) (field : List ℕ) (letter : ℕ) (rest : List ℕ)
+pub letter-behind : (delimiter : ℕ) (fields : List (List ℕ)) (field : List ℕ) (letter : ℕ) (rest : List ℕ)
     → records_behind delimiter fields field false (92 ∷ letter ∷ rest) ≡ records_behind delimiter fields (with_letter field letter) false rest
 unfolding records_behind
 letter-behind delimiter fields field letter rest = refl
@@ -85,7 +85,7 @@ field-behind delimiter delimits fields None rest = letter-behind delimiter field
 field-behind delimiter delimits fields (Some bytes) rest =
     text-behind delimiter delimits fields [] bytes rest ∙ ap (λ (f : List ℕ). records_behind delimiter fields f false rest) (with_bytes-guarded bytes)
 
-delimiter-behind : (delimiter : ℕ) → IsDelimiter delimiter → (fields : List (List ℕ)) (field rest : List ℕ)
+pub delimiter-behind : (delimiter : ℕ) → IsDelimiter delimiter → (fields : List (List ℕ)) (field rest : List ℕ)
     → records_behind delimiter fields field false (delimiter ∷ rest) ≡ records_behind delimiter (fields ++ field ∷ []) [] false rest
 unfolding records_behind
 delimiter-behind delimiter (inl tab) fields field rest =
@@ -93,7 +93,7 @@ delimiter-behind delimiter (inl tab) fields field rest =
 delimiter-behind delimiter (inr bar) fields field rest =
     subst (λ (d : ℕ). records_behind d fields field false (d ∷ rest) ≡ records_behind d (fields ++ field ∷ []) [] false rest) (sym bar) refl
 
-line_feed-behind : (delimiter : ℕ) → IsDelimiter delimiter → (fields : List (List ℕ)) (field rest : List ℕ)
+pub line_feed-behind : (delimiter : ℕ) → IsDelimiter delimiter → (fields : List (List ℕ)) (field rest : List ℕ)
     → records_behind delimiter fields field false (10 ∷ rest) ≡ (fields ++ field ∷ []) ∷ records_behind delimiter [] [] false rest
 unfolding records_behind
 line_feed-behind delimiter (inl tab) fields field rest =

@@ -1,3 +1,4 @@
+pub mod Alike
 pub mod Csv
 pub mod Readers
 pub mod Reading

@@ -6,6 +6,7 @@
 //! or a bar (124).
 #![tactic(auto)]
 
+mod alike;
 mod fault;
 pub mod laws;
 mod read;

@@ -1,6 +1,6 @@
 //! From COPY text form to CSV.
 
-ghost use Rattle.std.specs.Prelude.{◌≡◌, ◌≤◌, ◌∷◌, ◌++◌, [], ℕ, List, IfOk, OnOk, false, length, take, true};
+ghost use Rattle.std.specs.Prelude.{◌≡◌, ◌<◌, ◌≤◌, ◌∷◌, ◌++◌, [], ℕ, List, IfOk, OnOk, false, length, take, true};
 ghost use Rattle.std.specs.List.{list_all};
 ghost use Rattle.csv.specs.Records.{fields_of, partial_of};
 ghost use Rattle.csv_face.specs.Csv.{HasRows, IsCsvOf, names_text, record_text, records_text};
@@ -8,10 +8,14 @@ ghost use Rattle.csv_face.specs.Scan.{byte_of, is_plain, records_behind, with_by
 ghost use Rattle.csv_face.specs.Scanners.{ArePlain, HasWritten, WillWrite};
 ghost use Rattle.row_text.specs.Fields.{IsDelimiter};
 
+use crate::alike::{alike_size, push_alike};
 use csv::{ByteRecord, Writer, WriterBuilder};
 use out_of_memory::Memory;
 use schema_model::Text;
 use std::alloc::Global;
+
+/// How many bytes are read one by one where a line isn't written alike, before lines that are so are looked for again.
+const ONE_BY_ONE: usize = 4096;
 
 /// A text that is being read, and the CSV written so far.
 struct Scanner {
@@ -77,17 +81,25 @@ fn put_letter(field: &mut Vec<u8>, letter: u8) -> Result<(), Memory>
 }
 
 impl Scanner {
-    /// Starts with nothing read.
-    fn new(alloc: Global) -> Scanner
+    /// Starts after the CSV of what was read before, between two records.
+    fn new(alloc: Global, csv: Vec<u8>) -> Scanner
         ensures { (delimiter : ℕ) (text : List ℕ) →
-            WillWrite delimiter result (records_text (records_behind delimiter [] [] false text)) text }
+            WillWrite delimiter result (csv.items ++ records_text (records_behind delimiter [] [] false text)) text }
     {
         Scanner {
-            writer: WriterBuilder::new().from_writer(Vec::new(alloc)),
+            writer: WriterBuilder::new().from_writer(csv),
             fields: ByteRecord::new(alloc),
             field: Vec::new(alloc),
             is_escape: false,
         }
+    }
+
+    /// Tells whether it stands between two records.
+    fn is_between(&self) -> bool
+        ensures { result ≡ true → (delimiter : ℕ) (rest : List ℕ) →
+            records_behind delimiter (fields_of self.now.fields) self.now.field.items self.now.is_escape rest ≡ records_behind delimiter [] [] false rest }
+    {
+        !self.is_escape && self.field.is_empty() && self.fields.is_empty()
     }
 
     /// Reads one more byte.
@@ -135,6 +147,21 @@ impl Scanner {
         Ok(())
     }
 
+    /// Reads bytes that stand for themselves, and one more byte. Returns the text after them.
+    fn read_run<'a>(&mut self, text: &'a [u8], delimiter: u8) -> Result<&'a [u8], Memory>
+        ensures shorter { IfOk result (λ rest. length rest.now ≤ length text.now × (0 < length text.now → length rest.now < length text.now)) }
+        ensures read { (whole : List ℕ) → WillWrite delimiter self.old whole text.now → IfOk result (λ rest. WillWrite delimiter self.new whole rest.now) }
+    {
+        let size = self.plain_size(text, delimiter);
+        self.read_plain(&text[..size])?;
+        let rest = &text[size..];
+        if let [byte, behind @ ..] = rest {
+            self.read(*byte, delimiter)?;
+            return Ok(behind);
+        }
+        Ok(rest)
+    }
+
     /// Completes the current field.
     fn end_field(&mut self) -> Result<(), Memory>
         ensures same { OnOk result (self.new ≡ record self.old { fields = self.new.fields; field = self.new.field }) }
@@ -163,10 +190,9 @@ impl Scanner {
         Ok(())
     }
 
-    /// Returns the CSV of a text that is read whole.
-    #[tactic(auto, unfolding(crate::specs::Scan::records_behind))]
+    /// Returns the CSV of what was read.
     fn finish(self) -> Result<Vec<u8>, Memory>
-        ensures { (delimiter : ℕ) (whole : List ℕ) → WillWrite delimiter self whole [] → IfOk result (λ csv. csv.items ≡ whole) }
+        ensures { (text : List ℕ) → HasWritten self text → IfOk result (λ csv. csv.items ≡ text) }
     {
         let Scanner {
             writer,
@@ -203,22 +229,44 @@ fn plain_size(text: &[u8], delimiter: u8) -> usize
     text.len()
 }
 
-/// Returns the records of a text as CSV.
-fn scanned(alloc: Global, text: &[u8], delimiter: u8) -> Result<Vec<u8>, Memory>
-    ensures { IfOk result (λ csv. csv.items ≡ records_text (records_behind delimiter [] [] false text.now)) }
+/// Appends records of a text to the CSV of those before them, byte by byte: all, or `ONE_BY_ONE` bytes of them and the rest of the last record.
+/// Returns the CSV, and the text after these records.
+fn push_records(
+    alloc: Global,
+    csv: Vec<u8>,
+    text: &[u8],
+    delimiter: u8,
+) -> Result<(Vec<u8>, &[u8]), Memory>
+    ensures shorter { IfOk result (λ p. length p.1.now ≤ length text.now × (0 < length text.now → length p.1.now < length text.now)) }
+    ensures csv { IfOk result (λ p. p.0.items ++ records_text (records_behind delimiter [] [] false p.1.now)
+        ≡ csv.items ++ records_text (records_behind delimiter [] [] false text.now)) }
 {
-    let mut scanner = Scanner::new(alloc);
+    let mut scanner = Scanner::new(alloc, csv);
     let mut rest = text;
     while !rest.is_empty() {
-        let size = scanner.plain_size(rest, delimiter);
-        scanner.read_plain(&rest[..size])?;
-        rest = &rest[size..];
-        if let [byte, behind @ ..] = rest {
-            scanner.read(*byte, delimiter)?;
-            rest = behind;
+        if text.len() - rest.len() >= ONE_BY_ONE && scanner.is_between() {
+            return Ok((scanner.finish()?, rest));
         }
+        rest = scanner.read_run(rest, delimiter)?;
     }
-    scanner.finish()
+    Ok((scanner.finish()?, rest))
+}
+
+/// Returns the records of a text as CSV. Lines that CSV writes alike are taken together, and the records of others one by one.
+fn scanned(alloc: Global, text: &[u8], delimiter: u8) -> Result<Vec<u8>, Memory>
+    requires delimiter { IsDelimiter delimiter }
+    ensures { IfOk result (λ csv. csv.items ≡ records_text (records_behind delimiter [] [] false text.now)) }
+{
+    let mut csv = Vec::new(alloc);
+    let mut rest = text;
+    while !rest.is_empty() {
+        let (lines, others) = rest.split_at(alike_size(rest));
+        push_alike(&mut csv, lines, delimiter)?;
+        let (more, behind) = push_records(alloc, csv, others, delimiter)?;
+        csv = more;
+        rest = behind;
+    }
+    Ok(csv)
 }
 
 /// Returns a text in COPY text form as CSV, row by row. The text's lines are written with the delimiter and have the same number of fields.
