@@ -1,60 +1,11 @@
-//! What several tests need: plans of schemas, checksums, the schema of sales, and schemas whose parents are dealt in turn or drawn.
+//! What several tests need: whether a row or a reference is there, the schema of sales, and schemas whose parents are dealt in turn or drawn.
 
 ghost use Rattle.std.specs.Prelude.{◌≡◌, ◌<◌, is_some, length, true};
 ghost use Rattle.schema_facts.specs.References.{reference_at};
 ghost use Rattle.life_intervals.specs.Generator.{rows_in_all, table_of};
 
-use dictionaries::read_dictionary;
 use life_intervals::born;
-use schema_check::check;
-use schema_facts::Dictionaries;
 use schema_plan::{Plan, ReadyKind};
-use schema_read::read_schema;
-use std::alloc::Global;
-use std::process::Abort;
-
-/// Returns the plan of the schema whose text is the parts, one after the other. The schema can cite the dictionary `n`, of three words.
-pub(crate) fn plan_of(rt: &impl Abort, alloc: Global, parts: &[&str]) -> Plan {
-    let mut text = String::new(alloc);
-    for part in parts {
-        text.push_str(part).expect(rt, "memory");
-    }
-    let Ok(schema) = read_schema(alloc, text.as_bytes()) else {
-        panic!(rt; "no schema");
-    };
-    let Ok(plan) = check(alloc, schema, three_words(rt, alloc)) else {
-        panic!(rt; "no plan");
-    };
-    plan
-}
-
-fn three_words(rt: &impl Abort, alloc: Global) -> Dictionaries {
-    let Ok(words) = read_dictionary(alloc, b"Ann\t3\nBo\nA|b\t2\n") else {
-        panic!(rt; "no dictionary");
-    };
-    let mut all = Dictionaries::new(alloc);
-    all.push("n", words).expect(rt, "memory");
-    all
-}
-
-/// Asserts that a case holds. The two numbers say which one it is.
-pub(crate) fn assert_case(rt: &impl Abort, holds: bool, of: u64, number: u64) {
-    assert!(rt; holds, "case {number} of {of}");
-}
-
-/// Returns a checksum with a further number.
-pub(crate) fn with_number(sum: u64, number: u64) -> u64 {
-    sum.wrapping_mul(1_000_003).wrapping_add(number)
-}
-
-/// Returns a checksum with a further text.
-pub(crate) fn with_text(sum: u64, text: &[u8]) -> u64 {
-    let mut sum = sum;
-    for byte in text {
-        sum = with_number(sum, u64::from(*byte));
-    }
-    sum
-}
 
 /// Tells whether there is a table at a place with a row of an ordinal.
 pub(crate) fn is_row(plan: &Plan, table: u32, row: u64) -> bool

@@ -1,5 +1,5 @@
-//! Tests of the crates that make rows: `row_text`, `draw_values`, `life_intervals`, `row_lines`, `update_box` and
-//! `sql_lines`.
+//! Tests of the crates that make rows: `row_text`, `life_intervals`, `row_lines` and `update_box`. `value_tests` has those of
+//! `draw_values`, and `statement_tests` those of `sql_lines`.
 #![tactic(auto)]
 
 #[cfg(test)]
@@ -11,12 +11,8 @@ mod life_tests;
 #[cfg(test)]
 mod line_tests;
 #[cfg(test)]
-mod statement_tests;
-#[cfg(test)]
 mod text_tests;
 #[cfg(test)]
 mod told;
 #[cfg(test)]
 mod update_tests;
-#[cfg(test)]
-mod value_tests;

@@ -8,12 +8,13 @@ ghost use Rattle.life_intervals.specs.Generator.{last_unit, table_of};
 ghost use Rattle.life_intervals.specs.JobOrders.{AreOrdersOf};
 ghost use Rattle.life_intervals.specs.Rows.{life_by};
 
-use crate::fixtures::{DRAWN, FIVE_PARENTS, IN_TURN, SALES, has_parents, is_row, with_number};
+use crate::fixtures::{DRAWN, FIVE_PARENTS, IN_TURN, SALES, has_parents, is_row};
 use crate::told::{Told, assert_all};
 use life_intervals::{
     Cohort, JobOrders, Rows, Survival, birth, born, cohort, death, key, last_change, own_death,
     parent, row_of_cohort, row_of_key, survival_at,
 };
+use row_cases::with_number;
 use schema_plan::Plan;
 use std::alloc::Global;
 use std::marker::Brand;

@@ -8,10 +8,11 @@ ghost use Rattle.schema_facts.specs.TableFacts.{max_line};
 ghost use Rattle.life_intervals.specs.Generator.{generator_of, last_unit, table_of};
 ghost use Rattle.life_intervals.specs.Intervals.{is_live};
 
-use crate::fixtures::{DRAWN, FIVE_PARENTS, HUGE, ORDERS, SALES, has_parents, is_row, with_text};
+use crate::fixtures::{DRAWN, FIVE_PARENTS, HUGE, ORDERS, SALES, has_parents, is_row};
 use crate::told::{Told, assert_all};
 use life_intervals::{JobOrders, Rows, born, key, parent};
 use line_pages::{Digits, PageBuf};
+use row_cases::with_text;
 use row_lines::{RunBuf, RunLines, TableLines, live, put_key, put_line, row_report};
 use schema_plan::Plan;
 use std::alloc::Global;

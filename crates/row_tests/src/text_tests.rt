@@ -2,7 +2,6 @@
 
 ghost use Rattle.row_text.specs.Fields.{IsDelimiter};
 
-use crate::fixtures::assert_case;
 use line_pages::PageBuf;
 use row_text::{WrittenTexts, field_size, put_field, put_null, put_piece};
 use std::alloc::Global;
@@ -60,7 +59,7 @@ fn assert_alike(rt: &impl Abort, alloc: Global, fields: &[(Option<&[u8]>, &[u8])
     for (place, (field, text)) in fields.iter().enumerate() {
         let between_tabs = is_written(alloc, *field, 9, text);
         let between_bars = is_written(alloc, *field, 124, text);
-        assert_case(rt, between_tabs && between_bars, 0, place as u64);
+        assert!(rt; between_tabs && between_bars, "case {place} of 0");
     }
 }
 
@@ -83,7 +82,7 @@ fn assert_bars(rt: &impl Abort, alloc: Global, texts: &[(&[u8], &[u8], &[u8])]) 
     for (place, (text, between_tabs, between_bars)) in texts.iter().enumerate() {
         let alone = is_written(alloc, Some(*text), 9, between_tabs);
         let escaped = is_written(alloc, Some(*text), 124, between_bars);
-        assert_case(rt, alone && escaped, 1, place as u64);
+        assert!(rt; alone && escaped, "case {place} of 1");
     }
 }
 

@@ -3,11 +3,11 @@
 ghost use Rattle.std.specs.Prelude.{◌≡◌, ◌<◌};
 
 use crate::child_tests::dealt_as_told;
-use crate::fixtures::{assert_case, plan_of};
 use crate::life_tests::{has_cohorts_as_told, has_keys_as_told, lives_as_told};
 use crate::line_tests::has_lines_as_told;
 use crate::update_tests::changes_as_told;
 use life_intervals::{Block, Survival};
+use row_cases::plan_of;
 use schema_plan::Plan;
 use std::alloc::Global;
 use std::process::Abort;
@@ -114,10 +114,10 @@ pub(crate) fn assert_all<L: Ledger>(
 {
     let mut steps = Steps::<L>::new(blank);
     for (parts, cases) in schemas {
-        let plan = plan_of(rt, alloc, parts);
+        let plan = plan_of(alloc, parts).expect(rt, "an accepted schema");
         for (table, number, told) in *cases {
             let holds = is_as_told(alloc, &plan, *table, *number, *told, &mut steps);
-            assert_case(rt, holds, u64::from(*table), *number);
+            assert!(rt; holds, "case {number} of {table}");
         }
     }
 }

@@ -4,10 +4,11 @@
 ghost use Rattle.std.specs.Prelude.{◌≡◌, ◌<◌, ◌≤◌, length};
 ghost use Rattle.life_intervals.specs.Generator.{last_unit};
 
-use crate::fixtures::{DRAWN, HUGE, IN_TURN, ORDERS, SALES, is_row, plan_of, with_number};
+use crate::fixtures::{DRAWN, HUGE, IN_TURN, ORDERS, SALES, is_row};
 use crate::told::{Ordinals, Told, assert_all};
 use life_intervals::{Cohort, birth, born, death, last_change};
 use out_of_memory::Memory;
+use row_cases::{plan_of, with_number};
 use schema_plan::Plan;
 use std::alloc::{AllocError, Global};
 use std::marker::Brand;
@@ -379,7 +380,7 @@ fn changes_as_asked<L: Ledger>(
 // By hand: one in ten customers of unit 0 lives for 12 units, one in ten of unit 1 for 11, and one in ten of unit 2 for 10.
 #[test]
 fn lists_are_those_that_are_asked_for(rt: HostRuntime) -> Result<(), Fail> {
-    let plan = plan_of(&rt, rt.alloc(), &[SHOP]);
+    let plan = plan_of(rt.alloc(), &[SHOP]).expect(&rt, "an accepted schema");
     assert!(rt; changes_as_asked::<Brand>(rt.alloc(), &plan, 306, Blank::new(1))?);
     Ok(())
 }

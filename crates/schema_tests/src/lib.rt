@@ -1,4 +1,4 @@
-//! Tests of schemas: their types, word lists, the reading of a text, the rules, and the plan of an accepted schema.
+//! Tests of the rules of schemas, and of the plan of an accepted one. `read_tests` has those of what is read.
 #![tactic(auto)]
 
 #[cfg(test)]
@@ -8,11 +8,7 @@ mod column_rules;
 #[cfg(test)]
 mod columns_of_others;
 #[cfg(test)]
-mod model;
-#[cfg(test)]
 mod plans;
-#[cfg(test)]
-mod reading;
 #[cfg(test)]
 mod ready_columns;
 #[cfg(test)]
@@ -21,7 +17,3 @@ mod reference_rules;
 mod table_rules;
 #[cfg(test)]
 mod word_list_rules;
-#[cfg(test)]
-mod word_lists;
-#[cfg(test)]
-mod wrong_keys;

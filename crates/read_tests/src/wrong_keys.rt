@@ -1,7 +1,6 @@
 //! Texts with a wrong key. Each stands after the key that is wrong first. The expected results follow from the table of keys: a key of
 //! another type, a missing required key, and a further key, each once at each place and kind.
 
-use crate::cases::joined;
 use schema_read::{ReadSchemaFault, read_schema};
 use std::alloc::Global;
 use std::process::Abort;
@@ -289,7 +288,7 @@ fn try_row(
     end: &str,
 ) {
     let (wrong, inner) = row.split_once(": ").expect(rt, "no colon");
-    let text = joined(rt, alloc, &[front, inner, end]);
+    let text = [front, inner, end].concat(alloc).expect(rt, "memory");
     match read_schema(alloc, text.as_str().as_bytes()).err() {
         Some(
             ReadSchemaFault::Shape {

@@ -2,7 +2,7 @@ use Rattle.std.proofs.Common.{Some, refl, subst}
 use Rattle.std.proofs.lemmas.Bool.{eq-eqb}
 use Rattle.schema_facts.specs.Dictionaries.{Project}
 use Rattle.update_box.specs.TableLists.{HoldLists}
-use Rattle.row_tests.proofs.statement_tests.lists_of.Goals as goal
+use Rattle.statement_tests.proofs.statements.lists_of.Goals as goal
 
 pub returns-in-Ok : goal.returns-in-Ok
 returns-in-Ok g c =

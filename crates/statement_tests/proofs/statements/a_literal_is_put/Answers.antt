@@ -1,7 +1,7 @@
 use Rattle.std.proofs.Common.{◌≡◌, ◌∷◌, [], List, ℕ, Some, false, ap, arith, length, length-append, refl}
 use Rattle.line_pages.specs.Pages.{Page}
 use Rattle.sql_lines.specs.Literals.{literal, quoted}
-use Rattle.row_tests.proofs.statement_tests.a_literal_is_put.Goals as goal
+use Rattle.statement_tests.proofs.statements.a_literal_is_put.Goals as goal
 
 -- a quote and a backslash take five bytes between quotes
 abbrev first : List ℕ

@@ -7,9 +7,9 @@ ghost use Rattle.schema_facts.specs.Layout.{column_at, int_leaf, layout_of, tabl
 ghost use Rattle.schema_facts.specs.TableFacts.{max_line};
 ghost use Rattle.draw_values.specs.Values.{is_own, leaf_value, size_at};
 
-use crate::fixtures::{assert_case, plan_of, with_text};
 use draw_values::{CohortValues, Put, RowAt, put_value};
 use line_pages::PageBuf;
+use row_cases::{plan_of, with_text};
 use schema_plan::{Plan, ReadyKind, ReadyLeaf};
 use std::alloc::Global;
 use std::process::Abort;
@@ -132,14 +132,17 @@ fn holds(alloc: Global, plan: &Plan, at: RowAt, expected: &str) -> bool {
 
 /// Asserts what rows of the first table hold, given by their ordinals and the units of their births and last changes.
 fn assert_rows(rt: &impl Abort, alloc: Global, parts: &[&str], rows: &[(u64, u64, u64, &str)]) {
-    let plan = plan_of(rt, alloc, parts);
+    let plan = plan_of(alloc, parts).expect(rt, "an accepted schema");
     for (ordinal, born, changed, expected) in rows {
         let at = RowAt {
             ordinal: *ordinal,
             born: *born,
             changed: *changed,
         };
-        assert_case(rt, holds(alloc, &plan, at, expected), *born, *ordinal);
+        assert!(rt;
+            holds(alloc, &plan, at, expected),
+            "case {ordinal} of {born}"
+        );
     }
 }
 
@@ -692,8 +695,9 @@ fn has_value(alloc: Global, plan: &Plan, day: Option<i32>, text: &str) -> bool {
 
 fn assert_values(rt: &impl Abort, alloc: Global, values: &[(&str, Option<i32>, &str)]) {
     for (place, (keys, day, text)) in values.iter().enumerate() {
-        let plan = plan_of(rt, alloc, &[FEW, KEY_AND, *keys, END]);
-        assert_case(rt, has_value(alloc, &plan, *day, text), 1, place as u64);
+        let parts = [FEW, KEY_AND, *keys, END];
+        let plan = plan_of(alloc, &parts).expect(rt, "an accepted schema");
+        assert!(rt; has_value(alloc, &plan, *day, text), "case {place} of 1");
     }
 }
 
@@ -761,7 +765,7 @@ insert = 10
 "#;
 
 fn assert_checksum(rt: &impl Abort, alloc: Global, parts: &[&str], sum: u64) {
-    let plan = plan_of(rt, alloc, parts);
+    let plan = plan_of(alloc, parts).expect(rt, "an accepted schema");
     assert!(rt; has_checksum(alloc, &plan, sum));
 }
 

@@ -1,6 +1,6 @@
 use Rattle.std.proofs.Common.{refl}
 use Rattle.std.specs.Fmt.{digits}
-use Rattle.row_tests.proofs.value_tests.draws_choose_whole_numbers.Goals as goal
+use Rattle.value_tests.proofs.values.draws_choose_whole_numbers.Goals as goal
 
 pub returns-clause-below_0 : goal.returns-clause-below_0
 unfolding digits

@@ -4,9 +4,9 @@ use Rattle.schema_facts.specs.Layout.{Layout, layout_of}
 use Rattle.schema_facts.specs.TableFacts.{max_line}
 use Rattle.draw_values.specs.Values.{size_at}
 use Rattle.draw_values.proofs.ColumnLemmas.{length-ready_columns}
-use Rattle.row_tests.proofs.LineLemmas.{size_at-within}
-use Rattle.row_tests.proofs.value_tests.is_own_column.Goals as goal
-use Rattle.row_tests.proofs.value_tests.is_own_column.Goals.{In-Some}
+use Rattle.value_tests.proofs.LineLemmas.{size_at-within}
+use Rattle.value_tests.proofs.values.is_own_column.Goals as goal
+use Rattle.value_tests.proofs.values.is_own_column.Goals.{In-Some}
 
 size_fits : (c : In-Some) → size_at (layout_of c.args.plan.now) 0 c.args.column ≤ max_line (layout_of c.args.plan.now) 0
 size_fits c =
