@@ -1,8 +1,8 @@
 //! Schemas that cite dictionaries: in which order the files are asked for, and which schemas are refused.
 
-use crate::run::Held::Text;
-use crate::run::{DONE, REFUSED, Run, assert_run_over, library_of};
-use crate::schemas::{CITING, CITING_NO_NAME, CITING_TOO_MANY_ROWS};
+use run_cases::Held::Text;
+use run_cases::schemas::{CITING, CITING_NO_NAME, CITING_TOO_MANY_ROWS};
+use run_cases::{DONE, REFUSED, Run, check_run_over, library_of};
 use std::alloc::Global;
 use std::process::Abort;
 use std::thread::Threads;
@@ -171,8 +171,10 @@ static CASES: [Citing<'static>; 13] = [
 fn assert_citing<R: Threads + Sync + Abort>(rt: &R, alloc: Global, citing: &Citing<'_>) {
     let run = &citing.run;
     let schema = run.schema.as_bytes();
-    let mut library = library_of(rt, alloc, schema, [citing.n, citing.m], citing.fail);
-    assert_run_over(rt, alloc, &mut library, run);
+    let mut library = library_of(alloc, schema, [citing.n, citing.m], citing.fail).expect(
+        rt, "memory",
+    );
+    check_run_over(rt, alloc, &mut library, run).expect(rt, "a run as it is written down");
     let name = run.name;
     assert!(rt;
         library.asked_len() == citing.asked,

@@ -1,9 +1,9 @@
 //! Devices of which one call fails, and inputs that are at fault: what a run leaves then.
 
-use crate::run::Held::Text;
-use crate::run::{DONE, Held, REFUSED, Run, STOPPED, assert_run_over, assert_runs, library_of};
-use crate::schemas::TRADE;
 use pd_outside::{Files, LibraryFails, MemLibrary, ShelfFail};
+use run_cases::Held::Text;
+use run_cases::schemas::TRADE;
+use run_cases::{DONE, Held, REFUSED, Run, STOPPED, check_run_over, check_runs, library_of};
 use std::alloc::Global;
 use std::process::Abort;
 use std::thread::Threads;
@@ -69,7 +69,7 @@ static WRITES: [Run<'static>; 6] = [
 
 #[test]
 fn a_failed_write_leaves_the_files_before_it(rt: HostRuntime) {
-    assert_runs(&rt, rt.alloc(), &WRITES);
+    check_runs(&rt, rt.alloc(), &WRITES).expect(&rt, "runs as they are written down");
 }
 
 const UNREAD: Run<'static> = Run {
@@ -91,8 +91,11 @@ fn a_failed_read_begins_no_file(rt: HostRuntime) {
     for call in [1, 2, 3] {
         let schema = TRADE.as_bytes();
         let fail = ("s.toml", call);
-        let mut library = library_of(&rt, rt.alloc(), schema, [None, None], fail);
-        assert_run_over(&rt, rt.alloc(), &mut library, &UNREAD);
+        let mut library = library_of(rt.alloc(), schema, [None, None], fail).expect(&rt, "memory");
+        check_run_over(&rt, rt.alloc(), &mut library, &UNREAD).expect(
+            &rt,
+            "a run as it is written down",
+        );
         assert_asked_alone(&rt, &library);
     }
 }
@@ -101,7 +104,10 @@ fn a_failed_read_begins_no_file(rt: HostRuntime) {
 fn an_absent_schema_begins_no_file(rt: HostRuntime) {
     let files = Files::new(rt.alloc());
     let mut library = MemLibrary::new(rt.alloc(), files, LibraryFails::new(rt.alloc()));
-    assert_run_over(&rt, rt.alloc(), &mut library, &UNREAD);
+    check_run_over(&rt, rt.alloc(), &mut library, &UNREAD).expect(
+        &rt,
+        "a run as it is written down",
+    );
     assert_asked_alone(&rt, &library);
 }
 
@@ -164,7 +170,7 @@ fn assert_unapplied<R: Threads + Sync + Abort>(
         message,
         ..UNAPPLIED
     };
-    assert_run_over(rt, alloc, &mut library, &run);
+    check_run_over(rt, alloc, &mut library, &run).expect(rt, "a run as it is written down");
 }
 
 #[test]
@@ -177,7 +183,7 @@ fn inputs_at_fault_are_told_and_no_file_is_begun(rt: HostRuntime) {
 fn assert_cut<R: Threads + Sync + Abort>(rt: &R, alloc: Global, size: usize, message: &str) {
     let schema = TRADE.as_bytes();
     let cut = &schema[..size.min(schema.len())];
-    let mut library = library_of(rt, alloc, cut, [None, None], ("", 1));
+    let mut library = library_of(alloc, cut, [None, None], ("", 1)).expect(rt, "memory");
     let run = Run {
         name: "a schema that is cut",
         words: LINE_BY_LINE,
@@ -185,7 +191,7 @@ fn assert_cut<R: Threads + Sync + Abort>(rt: &R, alloc: Global, size: usize, mes
         message,
         ..REFUSED
     };
-    assert_run_over(rt, alloc, &mut library, &run);
+    check_run_over(rt, alloc, &mut library, &run).expect(rt, "a run as it is written down");
 }
 
 // Returns what is told of the text cut after `size` bytes. After a whole line the next required key is missing.

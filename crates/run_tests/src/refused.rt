@@ -1,11 +1,11 @@
 //! Words, schemas and requests that are refused, and in which order.
 
-use crate::run::Held::Text;
-use crate::run::{DONE, ONE_AT_2, REFUSED, Run, TWO, assert_run_over, assert_runs, library_of};
-use crate::schemas::{
+use run_cases::Held::Text;
+use run_cases::schemas::{
     MORTAL, MOST_ROWS, NO_PARENT, ONE, SALES, SHOWING, SHOWING_AND_TOO_MANY_ROWS, TOO_MANY_ROWS,
     TOO_MANY_ROWS_TO_UNIT_1, WINDOW_TOO_LONG,
 };
+use run_cases::{DONE, ONE_AT_2, REFUSED, Run, TWO, check_run_over, check_runs, library_of};
 use std::alloc::Global;
 use std::process::Abort;
 
@@ -542,23 +542,23 @@ static RANGES: [Run<'static>; 4] = [
 
 #[test]
 fn other_words_are_refused(rt: HostRuntime) {
-    assert_runs(&rt, rt.alloc(), &WORDS);
+    check_runs(&rt, rt.alloc(), &WORDS).expect(&rt, "runs as they are written down");
 }
 
 #[test]
 fn workers_packages_and_nodes_are_within_their_ranges(rt: HostRuntime) {
-    assert_runs(&rt, rt.alloc(), &SHARES);
+    check_runs(&rt, rt.alloc(), &SHARES).expect(&rt, "runs as they are written down");
 }
 
 #[test]
 fn other_schemas_are_refused(rt: HostRuntime) {
-    assert_runs(&rt, rt.alloc(), &SCHEMAS);
+    check_runs(&rt, rt.alloc(), &SCHEMAS).expect(&rt, "runs as they are written down");
 }
 
 #[test]
 fn requests_are_refused_in_order(rt: HostRuntime) {
-    assert_runs(&rt, rt.alloc(), &KEYS);
-    assert_runs(&rt, rt.alloc(), &RANGES);
+    check_runs(&rt, rt.alloc(), &KEYS).expect(&rt, "runs as they are written down");
+    check_runs(&rt, rt.alloc(), &RANGES).expect(&rt, "runs as they are written down");
 }
 
 // Returns a schema's text after line feeds, `size` bytes in all. It is a function of its own so that no proof unfolds its bytes.
@@ -586,7 +586,12 @@ fn a_schema_of_a_byte_too_many_is_refused(rt: HostRuntime) {
     };
     for (size, run) in [(1_048_576, fits), (1_048_577, too_long)] {
         let schema = padded(&rt, rt.alloc(), ONE, size);
-        let mut library = library_of(&rt, rt.alloc(), &schema, [None, None], ("", 1));
-        assert_run_over(&rt, rt.alloc(), &mut library, &run);
+        let mut library = library_of(rt.alloc(), &schema, [None, None], ("", 1)).expect(
+            &rt, "memory",
+        );
+        check_run_over(&rt, rt.alloc(), &mut library, &run).expect(
+            &rt,
+            "a run as it is written down",
+        );
     }
 }

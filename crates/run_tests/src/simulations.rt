@@ -1,9 +1,9 @@
 //! Texts that an independent program in Python wrote, stepping from unit to unit (docs/SECOND_PROGRAM.md). Each text is known by
 //! its checksum.
 
-use crate::run::Held::{Sum, Text};
-use crate::run::{DONE, Run, assert_runs};
-use crate::schemas::{FIVE, LIVING, THOUSAND};
+use run_cases::Held::{Sum, Text};
+use run_cases::schemas::{FIVE, LIVING, THOUSAND};
+use run_cases::{DONE, Run, check_runs};
 
 // What the table holds at each unit, and then what each unit deletes, updates and inserts.
 static ONE_TABLE: [Run<'static>; 13] = [
@@ -183,8 +183,8 @@ static FIVE_TABLES: [Run<'static>; 11] = [
 
 #[test]
 fn tables_are_those_of_a_simulation(rt: HostRuntime) {
-    assert_runs(&rt, rt.alloc(), &ONE_TABLE);
-    assert_runs(&rt, rt.alloc(), &FIVE_TABLES);
+    check_runs(&rt, rt.alloc(), &ONE_TABLE).expect(&rt, "runs as they are written down");
+    check_runs(&rt, rt.alloc(), &FIVE_TABLES).expect(&rt, "runs as they are written down");
 }
 
 static SCRAMBLED: [Run<'static>; 1] = [Run {
@@ -200,5 +200,5 @@ static SCRAMBLED: [Run<'static>; 1] = [Run {
 
 #[test]
 fn scrambled_keys_are_as_worked_out(rt: HostRuntime) {
-    assert_runs(&rt, rt.alloc(), &SCRAMBLED);
+    check_runs(&rt, rt.alloc(), &SCRAMBLED).expect(&rt, "runs as they are written down");
 }

@@ -7,12 +7,12 @@ ghost use Rattle.fill_jobs.specs.Playing.{plays_for};
 ghost use Rattle.pdgf_run.specs.Verdict.{IsVerdict};
 ghost use Rattle.request_words.specs.Words.{request};
 
-use crate::run::{idle_keeper, words_of};
-use crate::schemas::TRADE;
 use pd_outside::{Files, OpenGate, SureLibrary, SureShelf};
 use pdgf_run::laws::words_and_files_have_one_verdict;
 use pdgf_run::{Report, pdgf};
 use row_keeper::MapKeeper;
+use run_cases::schemas::TRADE;
+use run_cases::{idle_keeper, words_of};
 use std::alloc::Global;
 use std::process::Abort;
 use std::thread::Threads;
@@ -39,7 +39,7 @@ fn assert_done<R: Threads + Sync + Abort>(rt: &R, alloc: Global, line: &str) {
     let mut files = Files::new(alloc);
     files.push("s.toml", TRADE.as_bytes()).expect(rt, "memory");
     let mut library = SureLibrary::new(files);
-    let words = words_of(rt, alloc, line);
+    let words = words_of(alloc, line).expect(rt, "memory");
     let mut shelf = SureShelf::new();
     let mut keeper = idle_keeper(alloc);
     let Report { status, .. } = run_surely(

@@ -1,9 +1,9 @@
 //! What requests write, as far as the shelf goes. The texts are worked out by hand from the rules.
 
-use crate::run::Held::Text;
-use crate::run::{DONE, Held, ONE_AT_2, Run, STOPPED, assert_runs};
-use crate::schemas::{CHANGING, EMPTY, MORTAL, MOST_ROWS, ONE, ONE_SCRAMBLED, SALES, THREE};
 use pd_outside::ShelfFail;
+use run_cases::Held::Text;
+use run_cases::schemas::{CHANGING, EMPTY, MORTAL, MOST_ROWS, ONE, ONE_SCRAMBLED, SALES, THREE};
+use run_cases::{DONE, Held, ONE_AT_2, Run, STOPPED, check_runs};
 
 const THREE_OUT: &str = "pdgf snapshot s.toml --unit 1 --out d";
 
@@ -95,7 +95,7 @@ static FAILING: [Run<'static>; 10] = [
 
 #[test]
 fn files_are_written_as_far_as_the_shelf_goes(rt: HostRuntime) {
-    assert_runs(&rt, rt.alloc(), &FAILING);
+    check_runs(&rt, rt.alloc(), &FAILING).expect(&rt, "runs as they are written down");
 }
 
 static REQUESTS: [Run<'static>; 9] = [
@@ -169,7 +169,7 @@ static REQUESTS: [Run<'static>; 9] = [
 
 #[test]
 fn requests_come_to_their_files(rt: HostRuntime) {
-    assert_runs(&rt, rt.alloc(), &REQUESTS);
+    check_runs(&rt, rt.alloc(), &REQUESTS).expect(&rt, "runs as they are written down");
 }
 
 static REFERENCES: [Run<'static>; 4] = [
@@ -222,7 +222,7 @@ static REFERENCES: [Run<'static>; 4] = [
 
 #[test]
 fn references_come_to_their_files(rt: HostRuntime) {
-    assert_runs(&rt, rt.alloc(), &REFERENCES);
+    check_runs(&rt, rt.alloc(), &REFERENCES).expect(&rt, "runs as they are written down");
 }
 
 // Which rows are alive at each unit, and when they changed last.
@@ -301,7 +301,7 @@ static LIVES: [Run<'static>; 10] = [
 
 #[test]
 fn lives_and_changes_are_as_worked_out(rt: HostRuntime) {
-    assert_runs(&rt, rt.alloc(), &LIVES);
+    check_runs(&rt, rt.alloc(), &LIVES).expect(&rt, "runs as they are written down");
 }
 
 // What a unit deletes, updates and inserts, in one file and in a file each.
@@ -384,7 +384,7 @@ static UNITS: [Run<'static>; 8] = [
 
 #[test]
 fn changes_of_a_unit_are_as_worked_out(rt: HostRuntime) {
-    assert_runs(&rt, rt.alloc(), &UNITS);
+    check_runs(&rt, rt.alloc(), &UNITS).expect(&rt, "runs as they are written down");
 }
 
 // When a row is born and gone, how it stands at a unit, and what it holds if it is alive then.
@@ -461,5 +461,5 @@ static ROWS: [Run<'static>; 8] = [
 
 #[test]
 fn rows_are_told_as_worked_out(rt: HostRuntime) {
-    assert_runs(&rt, rt.alloc(), &ROWS);
+    check_runs(&rt, rt.alloc(), &ROWS).expect(&rt, "runs as they are written down");
 }

@@ -1,13 +1,11 @@
 //! Jobs by several workers, with packages of other sizes, and in shares: the same bytes. The texts are worked out by hand from the
 //! rules.
 
-use crate::run::Held::Text;
-use crate::run::{
-    DONE, Held, REFUSED, Run, STOPPED, assert_runs, idle_keeper, library_of, words_of,
-};
-use crate::schemas::SALES;
 use pd_outside::{Gate, MemShelf, ShelfFail, ShelfFails};
 use pdgf_run::{Report, default_package, pdgf};
+use run_cases::Held::Text;
+use run_cases::schemas::SALES;
+use run_cases::{DONE, Held, REFUSED, Run, STOPPED, check_runs, idle_keeper, library_of, words_of};
 use std::process::Abort;
 use std::sync::atomic::{AtomicU64, Ordering};
 use std::thread::Threads;
@@ -122,8 +120,8 @@ static UNITS: [Run<'static>; 7] = [
 
 #[test]
 fn workers_and_packages_give_the_same_bytes(rt: HostRuntime) {
-    assert_runs(&rt, rt.alloc(), &SNAPSHOTS);
-    assert_runs(&rt, rt.alloc(), &UNITS);
+    check_runs(&rt, rt.alloc(), &SNAPSHOTS).expect(&rt, "runs as they are written down");
+    check_runs(&rt, rt.alloc(), &UNITS).expect(&rt, "runs as they are written down");
 }
 
 static SHARES: [Run<'static>; 6] = [
@@ -177,7 +175,7 @@ static SHARES: [Run<'static>; 6] = [
 
 #[test]
 fn nodes_have_their_shares(rt: HostRuntime) {
-    assert_runs(&rt, rt.alloc(), &SHARES);
+    check_runs(&rt, rt.alloc(), &SHARES).expect(&rt, "runs as they are written down");
 }
 
 // The longest line of the tables has 42 bytes: 8 * 64 * 3,120 * 42 is 67,092,480.
@@ -225,7 +223,7 @@ static RANGES: [Run<'static>; 5] = [
 
 #[test]
 fn nodes_and_packages_are_within_their_ranges(rt: HostRuntime) {
-    assert_runs(&rt, rt.alloc(), &RANGES);
+    check_runs(&rt, rt.alloc(), &RANGES).expect(&rt, "runs as they are written down");
     assert_eq!(rt; default_package(4, 42), 1000);
     assert_eq!(rt; default_package(64, 65_536), 2);
 }
@@ -262,7 +260,7 @@ static FAILING: [Run<'static>; 3] = [
 
 #[test]
 fn files_of_workers_are_written_as_far_as_the_shelf_goes(rt: HostRuntime) {
-    assert_runs(&rt, rt.alloc(), &FAILING);
+    check_runs(&rt, rt.alloc(), &FAILING).expect(&rt, "runs as they are written down");
 }
 
 const EIGHT: &str = r#"seed = 1
@@ -315,11 +313,13 @@ fn assert_held<R: Threads + Sync + Abort>(rt: &R, alloc: std::alloc::Global, oth
         times: AtomicU64::new(0),
         given_up: AtomicU64::new(0),
     };
-    let mut library = library_of(rt, alloc, EIGHT.as_bytes(), [None, None], ("", 1));
+    let mut library = library_of(alloc, EIGHT.as_bytes(), [None, None], ("", 1)).expect(
+        rt, "memory",
+    );
     let mut shelf = MemShelf::new(alloc, ShelfFails::new(alloc), 1000);
     assert!(rt; shelf.begun().is_none());
     let words = "pdgf snapshot s.toml --unit 0 --workers 2 --package 1";
-    let words = words_of(rt, alloc, words);
+    let words = words_of(alloc, words).expect(rt, "memory");
     let mut keeper = idle_keeper(alloc);
     let Report { status, .. } = pdgf(
         rt,

@@ -1,6 +1,8 @@
-//! Tests of the system's files: real bytes through the adapters, and the progress that is told meanwhile.
+//! Tests of devices: real bytes through the adapters of the system's files, the progress that is told meanwhile, and the devices in memory.
 #![tactic(auto)]
 
+#[cfg(test)]
+mod devices_in_memory;
 #[cfg(test)]
 mod faulty;
 #[cfg(test)]

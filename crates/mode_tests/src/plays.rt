@@ -3,11 +3,11 @@
 ghost use Rattle.std.specs.Prelude.{◌≡◌, false};
 ghost use Rattle.row_keeper.specs.MapKeeper.{keeping_of};
 
-use crate::run::{library_of, words_of};
-use crate::schemas::TRADE;
 use pd_outside::{MemShelf, OpenGate, ShelfFail, ShelfFails};
 use pdgf_run::{Report, pdgf};
 use row_keeper::{KeeperFails, MapKeeper, RefTo};
+use run_cases::schemas::TRADE;
+use run_cases::{library_of, words_of};
 use std::alloc::Global;
 use std::process::Abort;
 use std::thread::Threads;
@@ -47,12 +47,14 @@ fn assert_play<R: Threads + Sync + Abort>(
 )
     requires { (keeping_of keeper.old).is_open ≡ false }
 {
-    let mut library = library_of(rt, alloc, TRADE.as_bytes(), [None, None], ("", 1));
+    let mut library = library_of(alloc, TRADE.as_bytes(), [None, None], ("", 1)).expect(
+        rt, "memory",
+    );
     let mut fails = ShelfFails::new(alloc);
     fails.push(play.fail).expect(rt, "memory");
     let mut shelf = MemShelf::new(alloc, fails, 1000);
     assert!(rt; shelf.begun().is_none());
-    let words = words_of(rt, alloc, play.words);
+    let words = words_of(alloc, play.words).expect(rt, "memory");
     let Report { status, message } = pdgf(
         rt,
         alloc,

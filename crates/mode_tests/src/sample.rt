@@ -2,10 +2,10 @@
 //! sample of size 1 follow by hand. Lives of 2 to 11 units are equally frequent in each cohort. Each customer has three orders of
 //! its own unit, and each order two lines. The sums, and the summary of size 200, come from a second program.
 
-use crate::run::Held::Text;
-use crate::run::{DONE, REFUSED, Run, STOPPED, assert_runs};
 use pd_outside::ShelfFail;
 use pdgf_run::sample_schema;
+use run_cases::Held::Text;
+use run_cases::{DONE, REFUSED, Run, STOPPED, check_runs};
 use sample_tables::sample_plan;
 use schema_read::read_schema;
 
@@ -138,7 +138,7 @@ static SAMPLES: [Run<'static>; 4] = [
 
 #[test]
 fn samples_are_summed_up(rt: HostRuntime) {
-    assert_runs(&rt, rt.alloc(), &SAMPLES);
+    check_runs(&rt, rt.alloc(), &SAMPLES).expect(&rt, "runs as they are written down");
 }
 
 static WORKERS: [Run<'static>; 2] = [
@@ -158,5 +158,5 @@ static WORKERS: [Run<'static>; 2] = [
 
 #[test]
 fn all_numbers_of_workers_give_one_summary(rt: HostRuntime) {
-    assert_runs(&rt, rt.alloc(), &WORKERS);
+    check_runs(&rt, rt.alloc(), &WORKERS).expect(&rt, "runs as they are written down");
 }

@@ -1,10 +1,10 @@
 //! Mode revert over files in memory. A unit's undo texts and the texts at the unit give the earlier snapshot, and an input at fault
 //! is told.
 
-use crate::run::Held::Text;
-use crate::run::{DONE, REFUSED, Run, assert_run_over};
-use crate::schemas::TRADE;
 use pd_outside::{Files, LibraryFails, MemLibrary};
+use run_cases::Held::Text;
+use run_cases::schemas::TRADE;
+use run_cases::{DONE, REFUSED, Run, check_run_over};
 use std::alloc::Global;
 use std::process::Abort;
 use std::thread::Threads;
@@ -31,7 +31,7 @@ fn inputs_with(rt: &impl Abort, alloc: Global, customer_undo: &str) -> MemLibrar
 
 fn assert_reverts<R: Threads + Sync + Abort>(rt: &R, alloc: Global, undo: &str, run: &Run) {
     let mut library = inputs_with(rt, alloc, undo);
-    assert_run_over(rt, alloc, &mut library, run);
+    check_run_over(rt, alloc, &mut library, run).expect(rt, "a run as it is written down");
 }
 
 static BACK: [Run<'static>; 3] = [

@@ -1,8 +1,8 @@
 //! Mode undo over files in memory. The texts are worked out by hand from the rules.
 
-use crate::run::Held::Text;
-use crate::run::{DONE, Held, REFUSED, Run, assert_runs};
-use crate::schemas::SALES;
+use run_cases::Held::Text;
+use run_cases::schemas::SALES;
+use run_cases::{DONE, Held, REFUSED, Run, check_runs};
 
 const CUSTOMERS: &str = "drop\t4\nset\t3\t2\t2\nadd\t0\t1\t0\t1\n";
 
@@ -96,10 +96,10 @@ const OUT_OF_RANGE: Run<'static> = Run {
 
 #[test]
 fn units_are_undone_table_by_table(rt: HostRuntime) {
-    assert_runs(&rt, rt.alloc(), &RUNS);
+    check_runs(&rt, rt.alloc(), &RUNS).expect(&rt, "runs as they are written down");
 }
 
 #[test]
 fn what_is_out_of_range_is_told(rt: HostRuntime) {
-    assert_runs(&rt, rt.alloc(), &REFUSALS);
+    check_runs(&rt, rt.alloc(), &REFUSALS).expect(&rt, "runs as they are written down");
 }

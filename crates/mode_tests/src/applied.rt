@@ -1,9 +1,9 @@
 //! Mode apply over files in memory. What the modes snapshot and unit write gives the later snapshot, and an input at fault is told.
 
-use crate::run::{REFUSED, Run, assert_run_over, idle_keeper, words_of};
-use crate::schemas::{ONE, SALES};
 use pd_outside::{Files, LibraryFails, MemLibrary, MemShelf, OpenGate, ShelfFails};
 use pdgf_run::{Report, pdgf};
+use run_cases::schemas::{ONE, SALES};
+use run_cases::{REFUSED, Run, check_run_over, idle_keeper, words_of};
 use std::alloc::Global;
 use std::process::Abort;
 use std::thread::Threads;
@@ -30,7 +30,7 @@ fn push_written<R: Threads + Sync + Abort>(
 ) {
     let mut shelf = MemShelf::new(alloc, ShelfFails::new(alloc), 1000);
     assert!(rt; shelf.begun().is_none());
-    let words = words_of(rt, alloc, line);
+    let words = words_of(alloc, line).expect(rt, "memory");
     let mut keeper = idle_keeper(alloc);
     let Report { status, .. } = pdgf(
         rt,
@@ -122,5 +122,8 @@ fn the_first_fault_is_told_and_no_file_is_begun(rt: HostRuntime) {
         ],
     );
     let mut library = library_with(rt.alloc(), files);
-    assert_run_over(&rt, rt.alloc(), &mut library, &AT_FAULT);
+    check_run_over(&rt, rt.alloc(), &mut library, &AT_FAULT).expect(
+        &rt,
+        "a run as it is written down",
+    );
 }

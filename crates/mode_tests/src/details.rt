@@ -2,7 +2,7 @@
 //! is refused. Any number of workers and any package size give the same. The texts are worked out by hand.
 
 use crate::details_applied::assert_details;
-use crate::run::{DONE, Held, REFUSED, Run};
+use run_cases::{DONE, Held, REFUSED, Run};
 
 const AT_2: &str = "1\t1\t5\n1\t2\t5\n2\t1\t5\n2\t2\t5\n3\t1\t5\n3\t2\t5\n";
 

@@ -1,8 +1,8 @@
 //! Rows and changes as statements of SQL, over files in memory. The statements are worked out by hand from the rules.
 
-use crate::run::Held::Text;
-use crate::run::{DONE, Held, REFUSED, Run, assert_runs};
-use crate::schemas::{ONE, TRADE};
+use run_cases::Held::Text;
+use run_cases::schemas::{ONE, TRADE};
+use run_cases::{DONE, Held, REFUSED, Run, check_runs};
 
 const CUSTOMER_AT_0: &str = "INSERT INTO \"customer\" VALUES (1, 0, 0);\n";
 
@@ -131,10 +131,10 @@ static REFUSALS: [Run<'static>; 4] = [
 
 #[test]
 fn statements_are_written_in_order(rt: HostRuntime) {
-    assert_runs(&rt, rt.alloc(), &RUNS);
+    check_runs(&rt, rt.alloc(), &RUNS).expect(&rt, "runs as they are written down");
 }
 
 #[test]
 fn what_cannot_be_stated_is_refused(rt: HostRuntime) {
-    assert_runs(&rt, rt.alloc(), &REFUSALS);
+    check_runs(&rt, rt.alloc(), &REFUSALS).expect(&rt, "runs as they are written down");
 }

@@ -1,14 +1,14 @@
-//! A run of the program over files in memory: what it is given and what it must come to.
+//! A run of the program over files in memory: what it is given, what it must come to, and what it came to that it mustn't.
 
 ghost use Rattle.std.specs.Prelude.{◌≡◌, false};
 ghost use Rattle.row_keeper.specs.MapKeeper.{keeping_of};
 
 use crate::schemas::ONE;
+use out_of_memory::Memory;
 use pd_outside::{Files, LibraryFails, MemLibrary, MemShelf, OpenGate, ShelfFail, ShelfFails};
 use pdgf_run::{Report, pdgf};
 use row_keeper::{KeeperFails, MapKeeper};
 use std::alloc::Global;
-use std::process::Abort;
 use std::thread::Threads;
 
 /// What a finished file holds.
@@ -78,38 +78,69 @@ pub const STOPPED: Run<'static> = Run {
     ..DONE
 };
 
+/// What a run came to that it mustn't. Each is told with the run's name.
+#[derive(Clone, Copy, Debug, PartialEq, Eq)]
+pub enum Unmet<'a> {
+    /// Memory ran out before the run.
+    Memory,
+    /// The shelf takes no byte at once.
+    Step(&'a str),
+    /// Another status.
+    Status(&'a str, u8),
+    /// Another message.
+    Message(&'a str),
+    /// Another file is left begun, or it holds other bytes.
+    Begun(&'a str),
+    /// Another number of finished files.
+    Files(&'a str, usize),
+    /// The finished file at a place, counted from 0, has another name or holds something else.
+    File(&'a str, usize),
+}
+
+impl<'a> From<Memory> for Unmet<'a> {
+    fn from(_: Memory) -> Unmet<'a> {
+        Unmet::Memory
+    }
+}
+
 /// Returns a library that holds the schema as `s.toml`, and the dictionaries `n` and `m` if they are given. One call on it fails.
 pub fn library_of(
-    rt: &impl Abort,
     alloc: Global,
     schema: &[u8],
     dictionaries: [Option<&[u8]>; 2],
     fail: (&str, u64),
-) -> MemLibrary {
+) -> Result<MemLibrary, Memory> {
     let mut files = Files::new(alloc);
-    files.push("s.toml", schema).expect(rt, "memory");
+    files.push("s.toml", schema)?;
     let [n, m] = dictionaries;
     if let Some(bytes) = n {
-        files.push("n", bytes).expect(rt, "memory");
+        files.push("n", bytes)?;
     }
     if let Some(bytes) = m {
-        files.push("m", bytes).expect(rt, "memory");
+        files.push("m", bytes)?;
     }
     let mut fails = LibraryFails::new(alloc);
-    fails.push(fail.0, fail.1).expect(rt, "memory");
-    MemLibrary::new(alloc, files, fails)
+    fails.push(fail.0, fail.1)?;
+    Ok(MemLibrary::new(alloc, files, fails))
 }
 
 /// Returns the words of a line, which have one space between two.
-pub fn words_of(rt: &impl Abort, alloc: Global, line: &str) -> Vec<String> {
+pub fn words_of(alloc: Global, line: &str) -> Result<Vec<String>, Memory> {
     let mut words = Vec::new(alloc);
     if !line.is_empty() {
         for word in line.split(' ') {
-            let word = String::from_str(alloc, word).expect(rt, "memory");
-            words.push(word).expect(rt, "memory");
+            words.push(String::from_str(alloc, word)?)?;
         }
     }
-    words
+    Ok(words)
+}
+
+/// Returns a store into which nothing is played.
+pub fn idle_keeper(alloc: Global) -> MapKeeper
+    ensures closed { (keeping_of result).is_open ≡ false }
+    ensures no_fault { (keeping_of result).faults ≡ 0 }
+{
+    MapKeeper::new(alloc, KeeperFails::new(alloc))
 }
 
 fn checksum(text: &[u8]) -> u64 {
@@ -127,45 +158,37 @@ fn is_held(bytes: &[u8], held: Held<'_>) -> bool {
     }
 }
 
-fn assert_files(rt: &impl Abort, shelf: &MemShelf, run: &Run<'_>) {
-    let name = run.name;
-    let begun = shelf.begun() == run.begun && shelf.begun_bytes() == run.begun_bytes.as_bytes();
-    assert!(rt; begun, "{name}: the begun file");
-    let files = shelf.finished();
-    assert!(rt;
-        files.len() == run.finished.len(),
-        "{name}: the number of files"
-    );
-    let mut number = 0usize;
-    for (file, held) in run.finished {
-        assert!(rt; number < files.len());
-        let is_as_wanted = files.name(number) == *file && is_held(files.bytes(number), *held);
-        assert!(rt; is_as_wanted, "{name}: {file}");
-        number = number.wrapping_add(1);
+fn check_files<'a>(shelf: &MemShelf, run: &Run<'a>) -> Result<(), Unmet<'a>> {
+    if shelf.begun() != run.begun || shelf.begun_bytes() != run.begun_bytes.as_bytes() {
+        return Err(Unmet::Begun(run.name));
     }
+    let files = shelf.finished();
+    if files.len() != run.finished.len() {
+        return Err(Unmet::Files(run.name, files.len()));
+    }
+    for place in 0..files.len() {
+        let (file, held) = run.finished[place];
+        if files.name(place) != file || !is_held(files.bytes(place), held) {
+            return Err(Unmet::File(run.name, place));
+        }
+    }
+    Ok(())
 }
 
-/// Returns a store into which nothing is played.
-pub fn idle_keeper(alloc: Global) -> MapKeeper
-    ensures closed { (keeping_of result).is_open ≡ false }
-    ensures no_fault { (keeping_of result).faults ≡ 0 }
-{
-    MapKeeper::new(alloc, KeeperFails::new(alloc))
-}
-
-/// Runs the words over a library and compares all that they come to.
-pub fn assert_run_over<R: Threads + Sync + Abort>(
+/// Runs the words over a library, and compares all that they come to.
+pub fn check_run_over<'a, R: Threads + Sync>(
     rt: &R,
     alloc: Global,
     library: &mut MemLibrary,
-    run: &Run<'_>,
-) {
-    assert!(rt; 0 < run.step);
+    run: &Run<'a>,
+) -> Result<(), Unmet<'a>> {
+    if run.step == 0 {
+        return Err(Unmet::Step(run.name));
+    }
     let mut fails = ShelfFails::new(alloc);
-    fails.push(run.fail).expect(rt, "memory");
+    fails.push(run.fail)?;
     let mut shelf = MemShelf::new(alloc, fails, run.step);
-    assert!(rt; shelf.begun().is_none());
-    let words = words_of(rt, alloc, run.words);
+    let words = words_of(alloc, run.words)?;
     let mut keeper = idle_keeper(alloc);
     let Report { status, message } = pdgf(
         rt,
@@ -176,17 +199,24 @@ pub fn assert_run_over<R: Threads + Sync + Abort>(
         &OpenGate,
         &mut keeper,
     );
-    let name = run.name;
-    assert_eq!(rt; status, run.status, "{name}");
-    assert_eq!(rt; message.text(), run.message.as_bytes(), "{name}");
-    assert_files(rt, &shelf, run);
+    if status != run.status {
+        return Err(Unmet::Status(run.name, status));
+    }
+    if message.text() != run.message.as_bytes() {
+        return Err(Unmet::Message(run.name));
+    }
+    check_files(&shelf, run)
 }
 
-/// Runs the words of each run over its schema.
-pub fn assert_runs<R: Threads + Sync + Abort>(rt: &R, alloc: Global, runs: &[Run<'_>]) {
+/// Runs the words of each run over its schema, up to the first that comes to something else.
+pub fn check_runs<'a, R: Threads + Sync>(
+    rt: &R,
+    alloc: Global,
+    runs: &[Run<'a>],
+) -> Result<(), Unmet<'a>> {
     for run in runs {
-        let schema = run.schema.as_bytes();
-        let mut library = library_of(rt, alloc, schema, [None, None], ("", 1));
-        assert_run_over(rt, alloc, &mut library, run);
+        let mut library = library_of(alloc, run.schema.as_bytes(), [None, None], ("", 1))?;
+        check_run_over(rt, alloc, &mut library, run)?;
     }
+    Ok(())
 }

@@ -1,9 +1,9 @@
 //! Detail tables with columns of all kinds over files in memory: their lines, the word lists that a declaration cites, in which order
 //! the files are asked for, and what is refused. The texts were worked out by an independent computation.
 
-use crate::run::{DONE, Held, REFUSED, Run, assert_run_over};
-use crate::schemas::{ONE_CITING, TRADE};
 use pd_outside::{Files, LibraryFails, MemLibrary};
+use run_cases::schemas::{ONE_CITING, TRADE};
+use run_cases::{DONE, Held, REFUSED, Run, check_run_over};
 use std::alloc::Global;
 use std::process::Abort;
 use std::thread::Threads;
@@ -163,7 +163,7 @@ fn library_with(rt: &impl Abort, alloc: Global, lines: &Lines<'_>) -> MemLibrary
 // Runs the words over the files, and compares what they come to and which names are asked for.
 fn assert_lines<R: Threads + Sync + Abort>(rt: &R, alloc: Global, lines: &Lines<'_>) {
     let mut library = library_with(rt, alloc, lines);
-    assert_run_over(rt, alloc, &mut library, &lines.run);
+    check_run_over(rt, alloc, &mut library, &lines.run).expect(rt, "a run as it is written down");
     let name = lines.run.name;
     assert!(rt;
         library.asked_len() == lines.asked.len(),

@@ -1,9 +1,9 @@
 //! Mode details-apply over files in memory. A unit's streams of a detail table give its later text, and an input at fault is told.
 //! The texts are worked out by hand.
 
-use crate::run::{DONE, Held, REFUSED, Run, assert_run_over};
-use crate::schemas::TRADE;
 use pd_outside::{Files, LibraryFails, MemLibrary};
+use run_cases::schemas::TRADE;
+use run_cases::{DONE, Held, REFUSED, Run, check_run_over};
 use std::alloc::Global;
 use std::process::Abort;
 use std::thread::Threads;
@@ -67,7 +67,7 @@ pub(crate) fn assert_details<R: Threads + Sync + Abort>(
 ) {
     for run in runs {
         let mut library = library_with(rt, alloc, deleted);
-        assert_run_over(rt, alloc, &mut library, run);
+        check_run_over(rt, alloc, &mut library, run).expect(rt, "a run as it is written down");
     }
 }
 
