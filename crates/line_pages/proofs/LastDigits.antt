@@ -1,7 +1,6 @@
 -- The last digits of a number, and all of them.
-use Rattle.std.proofs.Common.{◌≡◌, ℕ, zero, suc, ◌+◌, ◌-◌, ◌*◌, ◌/◌, ◌%◌, ◌^◌, ◌<◌, ◌≤◌, List, [], ◌∷◌, ◌++◌, inl, inr, length, drop, refl, sym, ap, ◌∙◌, subst, append_assoc, append-nil, length-append, arith}
+use Rattle.std.proofs.Common.{◌≡◌, ℕ, zero, suc, ◌+◌, ◌-◌, ◌*◌, ◌/◌, ◌%◌, ◌^◌, ◌<◌, ◌≤◌, List, [], ◌∷◌, ◌++◌, length, drop, refl, sym, ap, ◌∙◌, append_assoc, append-nil, length-append, arith}
 use Rattle.std.specs.Fmt.{decimal}
-use Rattle.std.proofs.lemmas.Bool.{cases_lt}
 use Rattle.std.proofs.lemmas.Fmt.{decimal_digit, decimal_step}
 use Rattle.std.proofs.Math.Nat.{pow-suc, one-le-pow, div-div-eq-div-mul}
 use Rattle.std.proofs.Math.Seq.{drop-append_seam}
@@ -140,7 +139,7 @@ decimal-last_digits (suc (suc count)) n has small =
     ∙ ap (λ (front : List ℕ). front ++ (48 + n % 10) ∷ []) (decimal-last_digits (suc count) (n / 10) rest (omega arith))
     ∙ sym (last_digits-suc (suc count) n)
 
--- a number is its last digits behind the number that is left without them
+-- a number is its last digits after the number that is left without them
 pub decimal-split : (k n : ℕ) → 10 ^ k ≤ n → n < 2 ^ 64 → decimal n ≡ decimal (n / 10 ^ k) ++ last_digits k n
 decimal-split zero n large small =
     let same : n / 1 ≡ n = omega arith in
@@ -166,39 +165,3 @@ length-split k n large small =
       length-append (decimal (n / 10 ^ k)) (last_digits k n),
       length-last_digits k n,
     )
-
--- digits are counted by the limits that a number reaches
-pub digits_counted : (n a b c d e f g : ℕ) → n < 100000000 → (10 ≤ n → a ≡ 1) → (n < 10 → a ≡ 0) → (100 ≤ n → b ≡ 1) → (n < 100 → b ≡ 0) →
-    (1000 ≤ n → c ≡ 1) → (n < 1000 → c ≡ 0) → (10000 ≤ n → d ≡ 1) → (n < 10000 → d ≡ 0) → (100000 ≤ n → e ≡ 1) → (n < 100000 → e ≡ 0) →
-    (1000000 ≤ n → f ≡ 1) → (n < 1000000 → f ≡ 0) → (10000000 ≤ n → g ≡ 1) → (n < 10000000 → g ≡ 0) → HasDigits n (1 + a + b + c + d + e + f + g)
-digits_counted n a b c d e f g small a1 a0 b1 b0 c1 c0 d1 d0 e1 e0 f1 f0 g1 g0 =
-    let all : ℕ = 1 + a + b + c + d + e + f + g in
-    let Here : ℕ → Type 0 = HasDigits n in
-    elim (cases_lt n 10) [
-      | inl one ↦ let is : 1 ≡ all = omega arith in subst Here is (record { some = omega arith; few = one; many = λ two. absurd (omega arith) })
-      | inr ten ↦
-          elim (cases_lt n 100) [
-            | inl under ↦ let is : 2 ≡ all = omega arith in subst Here is (record { some = omega arith; few = under; many = λ two. ten })
-            | inr two ↦
-                elim (cases_lt n 1000) [
-                  | inl under ↦ let is : 3 ≡ all = omega arith in subst Here is (record { some = omega arith; few = under; many = λ some. two })
-                  | inr three ↦
-                      elim (cases_lt n 10000) [
-                        | inl under ↦ let is : 4 ≡ all = omega arith in subst Here is (record { some = omega arith; few = under; many = λ some. three })
-                        | inr four ↦
-                            elim (cases_lt n 100000) [
-                              | inl under ↦ let is : 5 ≡ all = omega arith in subst Here is (record { some = omega arith; few = under; many = λ some. four })
-                              | inr five ↦
-                                  elim (cases_lt n 1000000) [
-                                    | inl under ↦ let is : 6 ≡ all = omega arith in subst Here is (record { some = omega arith; few = under; many = λ some. five })
-                                    | inr six ↦
-                                        elim (cases_lt n 10000000) [
-                                          | inl under ↦ let is : 7 ≡ all = omega arith in subst Here is (record { some = omega arith; few = under; many = λ some. six })
-                                          | inr seven ↦ let is : 8 ≡ all = omega arith in subst Here is (record { some = omega arith; few = small; many = λ some. seven })
-                                        ]
-                                  ]
-                            ]
-                      ]
-                ]
-          ]
-    ]

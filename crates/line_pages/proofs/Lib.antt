@@ -1,3 +1,4 @@
+pub mod DigitCount
 pub mod DigitLemmas
 pub mod LastDigits
 pub mod LowBytes

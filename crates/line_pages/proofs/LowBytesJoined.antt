@@ -1,15 +1,16 @@
 -- The lowest bytes of numbers that are put together, and of one that is cut.
-use Rattle.std.proofs.Common.{◌≡◌, ℕ, zero, suc, ◌+◌, ◌-◌, ◌*◌, ◌/◌, ◌%◌, ◌^◌, ◌<◌, ◌≤◌, List, ◌∷◌, ◌++◌, drop, refl, sym, ap, ◌∙◌, subst, arith, lit<}
+use Rattle.std.proofs.Common.{◌≡◌, ℕ, zero, suc, ◌+◌, ◌-◌, ◌*◌, ◌/◌, ◌%◌, ◌^◌, ◌<◌, ◌≤◌, List, [], ◌∷◌, ◌++◌, drop, length, refl, sym, ap, ◌∙◌, subst, arith, lit<}
+use Rattle.std.proofs.lemmas.List.{drop-append-le}
 use Rattle.std.proofs.lemmas.Nat.{div_below, pow-add}
 use Rattle.std.proofs.Math.Nat.{pow-suc, one-le-pow, pow-le-pow_right, mul_assoc, div-div-eq-div-mul, mul-le-mul_left}
 use Rattle.std.proofs.Math.Pow.{shl_exact}
 use Rattle.line_pages.specs.Pieces.{low_bytes}
-use Rattle.line_pages.proofs.LowBytes.{low_bytes-zero, low_bytes-suc}
+use Rattle.line_pages.proofs.LowBytes.{low_bytes-zero, low_bytes-suc, length-low_bytes}
 
 pow-next : (y a : ℕ) → y * 256 ^ suc a ≡ y * 256 ^ a * 256
 pow-next y a = ap (λ (p : ℕ). y * p) (pow-suc 256 a) ∙ sym (mul_assoc y (256 ^ a) 256)
 
--- the bytes of x, and behind them those of y
+-- the bytes of x, and after them those of y
 pub low_bytes-join : (a b x y : ℕ) → x < 256 ^ a → low_bytes (a + b) (x + y * 256 ^ a) ≡ low_bytes a x ++ low_bytes b y
 low_bytes-join zero b x y small =
     let same : x + y * 1 ≡ y = omega arith in
@@ -79,7 +80,7 @@ bytes-fit k n few small =
     let most : 256 ^ k ≤ 256 ^ 16 = pow-le-pow_right (lit< tt) few in
     omega arith
 
--- the bytes of y shifted behind those of x
+-- the bytes of y shifted after those of x
 shifted : (a b x y : ℕ) → y < 256 ^ b → a + b ≤ 16 → x + y * 2 ^ (8 * a) % 2 ^ 128 ≡ x + y * 256 ^ a
 shifted a b x y few room = ap (λ (z : ℕ). x + z) (shift-bytes a b y few room)
 
@@ -110,3 +111,30 @@ last_bytes-fit count word is len few small cut long =
     let whole : word < 256 ^ (8 - count + count) = subst Below all small in
     let part : word / 256 ^ (8 - count) < 256 ^ count = drop-fits (8 - count) count word whole in
     rw (long, cut, pow-bytes (8 - count)) part
+
+-- the last of eight bytes, and one more
+pub last_bytes-with : (count word end cut len : ℕ) → count ≤ 8 → word < 2 ^ 64 → end < 256 → cut ≡ (word + end * 2 ^ 64) / 2 ^ (8 * (8 - count)) → len ≡ count →
+    low_bytes (len + 1) cut ≡ drop (8 - count) (low_bytes 8 word) ++ end ∷ []
+last_bytes-with count word end cut len few small byte is long =
+    let more : ℕ = 8 - count in
+    let all : more + (len + 1) ≡ 9 = omega arith in
+    let one : low_bytes 1 end ≡ end ∷ [] =
+    low_bytes-suc 0 end ∙ ap (λ (rest : List ℕ). end % 256 ∷ rest) (low_bytes-zero (end / 256)) ∙ ap (λ (e : ℕ). e ∷ []) (omega arith)
+    in
+    let within : more ≤ length (low_bytes 8 word) = omega (arith, length-low_bytes 8 word) in
+    ap (low_bytes (len + 1)) (is ∙ ap (λ (p : ℕ). (word + end * 2 ^ 64) / p) (pow-bytes more))
+    ∙ sym (drop-low_bytes more (len + 1) (word + end * 2 ^ 64))
+    ∙ ap (λ (k : ℕ). drop more (low_bytes k (word + end * 2 ^ 64))) all
+    ∙ ap (drop more) (low_bytes-join 8 1 word end small ∙ ap (λ (last : List ℕ). low_bytes 8 word ++ last) one)
+    ∙ drop-append-le more (low_bytes 8 word) (end ∷ []) within
+
+pub last_bytes-with-fit : (count word end cut len : ℕ) → count ≤ 8 → word < 2 ^ 64 → end < 256 → cut ≡ (word + end * 2 ^ 64) / 2 ^ (8 * (8 - count)) → len ≡ count →
+    cut < 256 ^ (len + 1)
+last_bytes-with-fit count word end cut len few small byte is long =
+    let more : ℕ = 8 - count in
+    let all : more + (len + 1) ≡ 9 = omega arith in
+    let Below : ℕ → Type 0 = λ k. word + end * 2 ^ 64 < 256 ^ k in
+    let nine : word + end * 2 ^ 64 < 256 ^ 9 = omega arith in
+    let whole : word + end * 2 ^ 64 < 256 ^ (more + (len + 1)) = subst Below (sym all) nine in
+    let part : (word + end * 2 ^ 64) / 256 ^ more < 256 ^ (len + 1) = drop-fits more (len + 1) (word + end * 2 ^ 64) whole in
+    rw (is, pow-bytes more) part

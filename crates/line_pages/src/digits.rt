@@ -14,6 +14,10 @@ const FOURS: u32 = 10_000;
 /// The first number with more than eight digits.
 const LONG: u64 = 100_000_000;
 
+/// Eight digits 0 in a word, 16 less in the last one. What eight digits have beyond these begins with a byte 0 for each 0 that leads, and the last
+/// byte is never 0.
+const NO_DIGITS: u64 = 0x2030_3030_3030_3030;
+
 /// The texts of the numbers below 10,000, four digits each. Longer numbers are put together from them.
 #[derive(Debug, Drop)]
 pub struct Digits {
@@ -32,13 +36,13 @@ impl Digits {
         Ok(Digits { fours })
     }
 
-    /// Returns a number of at most 15 digits in decimal, with the byte `behind` after it.
+    /// Returns a number of at most 15 digits in decimal, with the byte `end` after it.
     #[inline(always)]
-    pub fn piece(&self, number: u64, behind: u8) -> Piece
+    pub fn piece(&self, number: u64, end: u8) -> Piece
         requires { number < 10 ^ 15 }
-        ensures { piece_text result ≡ decimal number ++ behind ∷ [] }
+        ensures { piece_text result ≡ decimal number ++ end ∷ [] }
     {
-        number_before(&self.fours, number, Piece::of_byte(behind))
+        number_with(&self.fours, number, end)
     }
 
     /// Returns a number of at most 15 digits in decimal, with a piece after it. Both fit together.
@@ -67,16 +71,16 @@ impl Digits {
             .prepend(b'0' + (number / LONG % 10) as u8)
     }
 
-    /// Makes each piece the text of its number, with the byte `behind` after it. A number has at most 15 digits. There are as many pieces as
+    /// Makes each piece the text of its number, with the byte `end` after it. A number has at most 15 digits. There are as many pieces as
     /// numbers.
-    pub fn fill(&self, numbers: &[u64], behind: u8, pieces: &mut [Piece])
+    pub fn fill(&self, numbers: &[u64], end: u8, pieces: &mut [Piece])
         requires numbers { All (λ number. number < 10 ^ 15) numbers.now }
         requires lengths { length numbers.now ≡ length pieces.old }
-        ensures { map piece_text pieces.new ≡ map (λ number. decimal number ++ behind ∷ []) numbers.now }
+        ensures { map piece_text pieces.new ≡ map (λ number. decimal number ++ end ∷ []) numbers.now }
     {
         let fours = self.fours.as_slice();
         for (i, piece) in pieces.iter_mut().enumerate() {
-            *piece = number_before(fours, numbers[i], Piece::of_byte(behind));
+            *piece = number_with(fours, numbers[i], end);
         }
     }
 }
@@ -117,6 +121,21 @@ fn last_piece(fours: &[u32], number: u64, count: u32) -> Piece
     Piece::of_last_bytes(eight_digits(fours, number % LONG), count)
 }
 
+/// Returns the eight digits of a number below 100,000,000, zeros included, in a word, and the number of digits without the zeros that lead. The first
+/// digit is lowest.
+#[inline(always)]
+fn counted_digits(fours: &[u32], number: u64) -> (u64, u32)
+    requires fours { AreFours fours.now }
+    requires number { number < 10 ^ 8 }
+    ensures digits { low_bytes 8 result.0 ≡ last_digits 8 number }
+    ensures count { HasDigits number result.1 }
+    ensures few { result.1 ≤ 8 }
+{
+    let digits = eight_digits(fours, number);
+    let zeros = (digits - NO_DIGITS).trailing_zeros() % 64 / 8;
+    (digits, 8 - zeros)
+}
+
 /// Returns a number of at most eight digits in decimal.
 #[inline(always)]
 fn short_piece(fours: &[u32], number: u64) -> Piece
@@ -125,33 +144,33 @@ fn short_piece(fours: &[u32], number: u64) -> Piece
     ensures text { piece_text result ≡ decimal number }
     ensures short { length (piece_text result) ≤ 8 }
 {
-    Piece::of_last_bytes(eight_digits(fours, number), digit_count(number))
+    let (digits, count) = counted_digits(fours, number);
+    Piece::of_last_bytes(digits, count)
 }
 
-/// Returns the number of digits of a number that has at most eight. Comparisons that are added up are faster than a choice among them.
+/// Returns a number of at most eight digits in decimal, with a byte after it.
 #[inline(always)]
-fn digit_count(number: u64) -> u32
-    requires { number < 10 ^ 8 }
-    ensures digits { HasDigits number result }
-    ensures few { result ≤ 8 }
+fn short_with(fours: &[u32], number: u64, end: u8) -> Piece
+    requires fours { AreFours fours.now }
+    requires number { number < 10 ^ 8 }
+    ensures { piece_text result ≡ decimal number ++ end ∷ [] }
 {
-    1 + at_least(number, 10)
-        + at_least(number, 100)
-        + at_least(number, 1000)
-        + at_least(number, 10_000)
-        + at_least(number, 100_000)
-        + at_least(number, 1_000_000)
-        + at_least(number, 10_000_000)
+    let (digits, count) = counted_digits(fours, number);
+    Piece::of_last_bytes_with(digits, count, end)
 }
 
-/// Returns 1 if the number is at least the limit, and otherwise 0.
+/// Returns a number of at most 15 digits in decimal, with a byte after it.
 #[inline(always)]
-fn at_least(number: u64, limit: u64) -> u32
-    ensures yes { limit ≤ number → result ≡ 1 }
-    ensures no { number < limit → result ≡ 0 }
-    ensures most { result ≤ 1 }
+fn number_with(fours: &[u32], number: u64, end: u8) -> Piece
+    requires fours { AreFours fours.now }
+    requires number { number < 10 ^ 15 }
+    ensures { piece_text result ≡ decimal number ++ end ∷ [] }
 {
-    (number >= limit) as u32
+    if number < LONG {
+        return short_with(fours, number, end);
+    }
+    let low = Piece::of_last_bytes_with(eight_digits(fours, number % LONG), 8, end);
+    short_piece(fours, number / LONG).then(low)
 }
 
 /// Returns a number of at most 15 digits in decimal, with a piece after it. Both fit together.

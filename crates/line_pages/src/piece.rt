@@ -80,6 +80,20 @@ impl Piece {
         }
     }
 
+    /// Returns the last `count` bytes, 1 to 8, of a word of eight, followed by a byte.
+    #[inline(always)]
+    pub(crate) fn of_last_bytes_with(word: u64, count: u32, end: u8) -> Piece
+        requires some { 1 ≤ count }
+        requires few { count ≤ 8 }
+        ensures { piece_text result ≡ drop (8 - count) (low_bytes 8 word) ++ end ∷ [] }
+    {
+        let nine = u128::from(word) + (u128::from(end) << 64);
+        Piece {
+            word: nine >> (8 * (8 - count)),
+            len: u64::from(count) + 1,
+        }
+    }
+
     /// Returns the number of bytes.
     #[inline(always)]
     pub fn len(&self) -> usize
