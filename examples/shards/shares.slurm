@@ -10,7 +10,7 @@
 #     export SHARDS=/path/to/pdgf/examples/shards
 #     sbatch --array=0-6 $SHARDS/shares.slurm shares 7 snapshot shop.toml --unit 12
 #
-# and behind it, where all tasks ended well, the check:
+# and after it, where all tasks ended well, the check:
 #
 #     sbatch --dependency=afterok:JOB --wrap "$SHARDS/check shares 7"
 #

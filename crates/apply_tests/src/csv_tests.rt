@@ -26,7 +26,8 @@ fn rows_with_bars_are_written(rt: HostRuntime) {
 /// Lines of more than two blocks that stand alike in CSV but for the commas, with a null in each, then one that doesn't, and one more.
 #[test]
 fn lines_that_stand_alike_are_written(rt: HostRuntime) {
-    let text = b"17\t\\N\ta word\t-3.25\n17\t\\N\ta word\t-3.25\n17\t\\N\ta word\t-3.25\n17\t\\N\ta word\t-3.25\n17\t\\N\ta word\t-3.25\n17\t\\N\ta word\t-3.25\n17\t\\N\ta word\t-3.25\n17\t\\N\ta word\t-3.25\n18\t\\\\N\ta, b\t\\\\\n17\t\\N\ta word\t-3.25\n".as_slice();
+    let text =
+        b"17\t\\N\ta word\t-3.25\n17\t\\N\ta word\t-3.25\n17\t\\N\ta word\t-3.25\n17\t\\N\ta word\t-3.25\n17\t\\N\ta word\t-3.25\n17\t\\N\ta word\t-3.25\n17\t\\N\ta word\t-3.25\n17\t\\N\ta word\t-3.25\n18\t\\\\N\ta, b\t\\\\\n17\t\\N\ta word\t-3.25\n".as_slice();
     let csv = to_csv(rt.alloc(), text, b'\t').expect(&rt, "ample memory");
     assert!(rt;
         csv.as_slice()
@@ -37,7 +38,8 @@ fn lines_that_stand_alike_are_written(rt: HostRuntime) {
 /// Lines of one empty field, each of which is two quotes in CSV, before, between and after a line of more than a block.
 #[test]
 fn empty_lines_are_written(rt: HostRuntime) {
-    let text = b"\nseventeen seventeen seventeen seventeen seventeen seventeen seventeen seventeen \n\nseventeen seventeen seventeen seventeen seventeen seventeen seventeen seventeen \n".as_slice();
+    let text =
+        b"\nseventeen seventeen seventeen seventeen seventeen seventeen seventeen seventeen \n\nseventeen seventeen seventeen seventeen seventeen seventeen seventeen seventeen \n".as_slice();
     let csv = to_csv(rt.alloc(), text, b'\t').expect(&rt, "ample memory");
     assert!(rt;
         csv.as_slice()

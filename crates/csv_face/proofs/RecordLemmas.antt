@@ -67,7 +67,7 @@ reached-good config count s s2 text rest (x ∷ before) last (y ∷ records) (p,
     reached-good config count p.1 s2 p.2 rest before last records more
     (s3, t3, subst (λ (r : Read). Reached config r.1 r.2 records s3 t3) (sym same) more_q, none) (good-tail count y records good)
 
--- two records that are reached behind good ones, and are bad, are behind as many
+-- two records that are reached after good ones, and are bad, are after as many
 pub first_bad-same : (config : Config) (count : ℕ) (s s2 s3 : State) (text rest rest_3 : List ℕ) (before others : List (List (List ℕ))) (last other : List (List ℕ))
     → Reached config s text (before ++ last ∷ []) s2 rest → Reached config s text (others ++ other ∷ []) s3 rest_3
     → AreGood count before → AreGood count others → is_bad_record count last ≡ true → is_bad_record count other ≡ true → length before ≡ length others

@@ -18,7 +18,7 @@ drop-Some-suc [] i field is = cc is
 drop-Some-suc (first ∷ fields) zero field is = let same : first ≡ field = cc is in ap (λ (f : List ℕ). f ∷ fields) same
 drop-Some-suc (first ∷ fields) (suc i) field is = drop-Some-suc fields i field is
 
--- what is behind the field at a place
+-- what is after the field at a place
 pub drop-Some : (fields : List (List ℕ)) (i : ℕ) (field : List ℕ) → field_at fields i ≡ Some field → drop i fields ≡ field ∷ drop (i + 1) fields
 drop-Some fields i field is = rw (add-one i) (drop-Some-suc fields i field is)
 
@@ -59,7 +59,7 @@ line_text-more delimiter first fields field =
     ∙ sym (append_assoc (field_text delimiter first) (flat_map behind fields) (behind field))
     ∙ sym (append_assoc (field_text delimiter first ++ flat_map behind fields) (delimiter ∷ []) (field_text delimiter field))
 
--- a text behind which fields of a record are put: the first one, and each other behind a delimiter
+-- a text after which fields of a record are put: the first one, and each other after a delimiter
 pub put-first : (delimiter i : ℕ) (fields : List (List ℕ)) (field old before after : List ℕ) → i ≤ 0 → field_at fields i ≡ Some field
     → before ≡ old ++ line_text delimiter (map row_field (take i fields)) → after ≡ before ++ field_text delimiter (row_field field)
     → after ≡ old ++ line_text delimiter (map row_field (take (i + 1) fields))

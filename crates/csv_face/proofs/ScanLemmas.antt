@@ -13,7 +13,7 @@ use Rattle.csv_face.specs.Csv.{Row, csv_field, guarded, rows_text}
 use Rattle.csv_face.specs.Scan.{is_plain, records_behind, with_byte, with_letter}
 use Rattle.csv_face.specs.Scanners.{ArePlainBy}
 
--- a text behind what a record's field holds of it
+-- a text after what a record's field holds of it
 unfoldable with_bytes : List ℕ → List ℕ → List ℕ
 with_bytes field [] = field
 with_bytes field (byte ∷ bytes) = with_bytes (with_byte field byte) bytes
@@ -101,7 +101,7 @@ line_feed-behind delimiter (inl tab) fields field rest =
 line_feed-behind delimiter (inr bar) fields field rest =
     subst (λ (d : ℕ). records_behind d fields field false (10 ∷ rest) ≡ (fields ++ field ∷ []) ∷ records_behind d [] [] false rest) (sym bar) refl
 
--- fields behind the first one, each with the delimiter before it
+-- fields after the first one, each with the delimiter before it
 rest_text : ℕ → Row → List ℕ
 rest_text delimiter fields = flat_map (λ field. (delimiter ∷ []) ++ field_text delimiter field) fields
 

@@ -17,7 +17,7 @@ abbrev pub csv_field : Option (List ℕ) → List ℕ
 csv_field None = codes "\\N"
 csv_field (Some bytes) = guarded bytes
 
--- the lines of rows, one behind the other, in COPY text form
+-- the lines of rows, one after the other, in COPY text form
 abbrev pub rows_text : ℕ → List Row → List ℕ
 rows_text delimiter rows = flat_map (λ row. line_text delimiter row ++ 10 ∷ []) rows
 

@@ -8,12 +8,12 @@ use Rattle.csv_face.specs.Csv.{rows_text}
 use Rattle.csv_face.specs.declared.fault.CsvFault.{CsvFault}
 use Rattle.csv_face.specs.declared.fault.CsvFault.TheVariants.{BadRecord, Memory}
 
--- whether nothing is behind a byte
+-- whether nothing is after a byte
 abbrev pub is_alone : List ℕ → Bool
 is_alone [] = true
 is_alone (byte ∷ bytes) = false
 
--- whether what is behind a field's first backslash makes it none that a field of a row gives: it is neither a second one nor N alone
+-- whether what is after a field's first backslash makes it none that a field of a row gives: it is neither a second one nor N alone
 abbrev pub is_bad_behind : List ℕ → Bool
 is_bad_behind [] = true
 is_bad_behind (byte ∷ bytes) = not (byte == 92) && not (byte == 78 && is_alone bytes)
@@ -23,7 +23,7 @@ abbrev pub is_bad_field : List ℕ → Bool
 is_bad_field [] = false
 is_bad_field (byte ∷ bytes) = byte == 92 && is_bad_behind bytes
 
--- what is behind a field's first backslash: a text that begins with one, or null
+-- what is after a field's first backslash: a text that begins with one, or null
 abbrev pub field_behind : List ℕ → Option (List ℕ)
 field_behind [] = None
 field_behind (byte ∷ bytes) = if byte == 92 then Some (byte ∷ bytes) else None

@@ -15,7 +15,7 @@ byte_of letter =
     (if letter == 102 then 12 else
     (if letter == 114 then 13 else letter)))))
 
--- a byte of a text behind what a record's field holds of it: a backslash that it begins with is written twice
+-- a byte of a text after what a record's field holds of it: a backslash that it begins with is written twice
 abbrev pub with_byte : List ℕ → ℕ → List ℕ
 with_byte [] byte = if byte == 92 then 92 ∷ 92 ∷ [] else byte ∷ []
 with_byte (first ∷ field) byte = (first ∷ field) ++ byte ∷ []

@@ -7,7 +7,7 @@ use Rattle.csv_face.specs.Csv.{records_text}
 use Rattle.csv_face.specs.Scan.{is_plain, records_behind}
 use Rattle.csv_face.specs.declared.write.Scanner.{Scanner}
 
--- its writer stands between two records, behind this text
+-- its writer stands between two records, after this text
 pub record HasWritten (scanner : Scanner) (text : List ℕ) : Type 0 where
   pub setup : writer_setup scanner.writer ≡ default_writer
   pub no_field : fields_written scanner.writer ≡ 0
@@ -22,7 +22,7 @@ pub record WillWrite (delimiter : ℕ) (scanner : Scanner) (whole rest : List �
   pub behind :
       text ++ records_text (records_behind delimiter (fields_of scanner.fields) scanner.field.items scanner.is_escape rest) ≡ whole
 
--- bytes that stand for themselves where they are read next: none, where the letter behind a backslash comes next
+-- bytes that stand for themselves where they are read next: none, where the letter after a backslash comes next
 abbrev pub ArePlainBy : ℕ → Bool → List ℕ → Type 0
 ArePlainBy delimiter true bytes = bytes ≡ []
 ArePlainBy delimiter false bytes = list_all (is_plain delimiter) bytes ≡ true

@@ -262,7 +262,7 @@ module _ (plan : Project) (limits : IsInLimits plan) (kept : Kept) (keeps : Keep
       subst (λ (at : ℕ). at ≤ last → is_live generator place at (row_of n) ≡ true → (change_unit generator place at (row_of n) ≡ at → ⊥) → text unit n ≡ text at n) (sym (add-one unit))
       (λ within_next alive_next still_next. text-next unit n within_next born before alive_next still_next) within alive still
 
-  -- its streams, applied to the lines of the unit before, make those of the unit, and what comes behind them
+  -- its streams, applied to the lines of the unit before, make those of the unit, and what comes after them
   lines-next : IsDelimiter generator.delimiter → (unit : ℕ) → unit + 1 ≤ last → (streams : List (List ℕ)) (end : List KeyedLine) →
       IsMadeByUnits Two generator.delimiter streams (live_lines (unit + 1)) end →
       IsMadeByUnits Two generator.delimiter (detail_streams plan kept (unit + 1) ++ streams) (live_lines unit) end

@@ -181,7 +181,7 @@ module _ (plan : Project) (kept : Kept) (keeps : KeepsRules plan kept) (limits :
       ∙ passes_each (λ place. keeps_column_rules (facts_among facts place) columns place) (range_with_len 0 own) column 0
       (omega (arith, within, length-range_with_len 0 own)) all
 
-  -- so each has a name, and the reference stands behind them
+  -- so each has a name, and the reference stands after them
   name_is : (column : ℕ) → column < own → same_text (get_or columns column a_schema_column).name [] ≡ false
   name_is column within =
       let names = map (λ (c : Column). c.name) columns in

@@ -70,7 +70,7 @@ spread-none row place from lists = record {
   place_here = λ k inside. absurd (omega (arith, inside));
 }
 
--- one more line of a row that is put behind others
+-- one more line of a row that is put after others
 pub spread-more : (row : ParentRow) (place from k : ℕ) (before now : LineLists) → HasRoom now → from + k < 256 → AreSpread row place from k before now →
     AreSpread row place from (k + 1) before (with_line row place (k + 1) (64 * row.ordinal + k) (from + k) now)
 spread-more row place from k before now room within spread = record {
@@ -180,7 +180,7 @@ listed-none over unit lists room = record {
   drawn_are = λ k inside. absurd (omega (arith, inside));
 }
 
--- a place behind others
+-- a place after others
 past : (k from count : ℕ) → from ≤ k → k < from + count → (j : ℕ) × (j < count) × (k ≡ from + j)
 past k from count behind inside = (k - from, omega (arith, behind, inside), omega (arith, behind))
 
@@ -297,7 +297,7 @@ gathered-more over unit place first i from count rows before after ordered sprea
 
 -- ---- lines of pieces
 
--- the delimiter before each field and a line feed behind the last, and the byte behind each
+-- the delimiter before each field and a line feed after the last, and the byte after each
 fields-shifted : (d : ℕ) (f : ℕ → List ℕ) (a n : ℕ) →
     flat_map (λ column. d ∷ f column) (range_with_len a (n + 1)) ++ 10 ∷ [] ≡ d ∷ flat_map (λ column. f column ++ behind d (a + (n + 1)) column ∷ []) (range_with_len a (n + 1))
 fields-shifted d f a zero =
@@ -329,7 +329,7 @@ fields-behind d f count some =
     ∙ ap (λ (many : ℕ). d ∷ flat_map (λ column. f column ++ behind d many column ∷ []) (range_with_len 0 ((count - 1) + 1))) start
     ∙ ap (λ (many : ℕ). d ∷ flat_map (λ column. f column ++ behind d count column ∷ []) (range_with_len 0 many)) is
 
--- a line of its key, its number and its fields, each with the byte behind it
+-- a line of its key, its number and its fields, each with the byte after it
 pub line-behind : (over : LinesOver) (unit ordinal key number : ℕ) → 1 ≤ own_over over → key < 2 ^ 64 → number < 2 ^ 64 → key ≡ key_of_row (generator_of over.plan) (place_over over) (row_over over unit ordinal) →
     with_behind (delimiter_over over) (decimal key) ++ (with_behind (delimiter_over over) (decimal number)
     ++ flat_map (λ column. with_behind (behind_over over column) (text_over (record { over = over; unit = unit; ordinal = ordinal; number = number }) column)) (range_with_len 0 (own_over over)))
@@ -497,7 +497,7 @@ heads-made over count a b run pieces keys numbers many_keys many_numbers room sa
       ∙ numbers_are k inside;
 }
 
--- a part that is set behind them leaves them
+-- a part that is set after them leaves them
 pub heads-before : (over : LinesOver) (count start k : ℕ) (run : LineRun) (pieces fields : List Piece) → 2 * count ≤ start → start ≤ length pieces → AreHeads over count run pieces → AreHeads over count run (put_mid start k pieces fields)
 heads-before over count start k run pieces fields behind within heads = record {
   keys = λ place inside. piece_text_at-before start k pieces fields place (omega (arith, inside, behind)) within ∙ heads.keys place inside;
@@ -521,7 +521,7 @@ fields-before over unit count run pieces fields start k from column within befor
 
 -- ---- sizes
 
--- fields with the byte behind each
+-- fields with the byte after each
 pub fields-length : (over : LinesOver) (line : LineOver) → ((column : ℕ) → column < own_over over → length (text_over line column) ≤ size_over over column) → (n : ℕ) → n ≤ own_over over →
     length (flat_map (λ column. with_behind (behind_over over column) (text_over line column)) (range_with_len 0 n)) ≤ fields_room over n
 fields-length over line size zero within = omega arith

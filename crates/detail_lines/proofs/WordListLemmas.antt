@@ -1,4 +1,4 @@
--- Word lists that stand behind those of a schema: they change no table of it.
+-- Word lists that stand after those of a schema: they change no table of it.
 use Rattle.std.proofs.Common.{◌≡◌, ◌∙◌, ℕ, pos, ◌<◌, All, Bool, List, [], ◌∷◌, ◌++◌, get_or, length, map, Option, Some, None, refl, sym, ap, ap₂, subst, arith}
 use Rattle.std.specs.Prelude.{⊤, unwrap_or}
 use Rattle.std.specs.List.{find}

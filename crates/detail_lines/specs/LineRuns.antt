@@ -148,7 +148,7 @@ pub record AreTotals (over : LinesOver) (unit count : ℕ) (run : LineRun) (tota
 
 -- ---- fields
 
--- the keys and the numbers of so many lines are made, each with the delimiter behind it: first all keys, then all numbers
+-- the keys and the numbers of so many lines are made, each with the delimiter after it: first all keys, then all numbers
 pub record AreHeads (over : LinesOver) (count : ℕ) (run : LineRun) (pieces : List Piece) : Type 0 where
   pub keys : (k : ℕ) → k < count → piece_text_at pieces k ≡ with_behind (delimiter_over over) (decimal (get_or run.rows.keys.now k 0))
   pub numbers : (k : ℕ) → k < count → piece_text_at pieces (count + k) ≡ with_behind (delimiter_over over) (decimal (get_or run.numbers.now k 0))
@@ -158,7 +158,7 @@ abbrev pub text_over : LineOver → ℕ → List ℕ
 text_over line column = field_text (delimiter_over line.over) (line_field (line_over line) column)
 
 -- the fields of so many lines in the column at a place are made: from a place of the pieces on each stands as it is written, with the byte
--- behind it, and none is longer than the column's may be
+-- after it, and none is longer than the column's may be
 pub record AreFields (over : LinesOver) (unit count : ℕ) (run : LineRun) (pieces : List Piece) (start column : ℕ) : Type 0 where
   pub text : (k : ℕ) → k < count → piece_text_at pieces (start + k) ≡ with_behind (behind_over over column) (text_over (line_of over unit run k) column)
   pub size : (k : ℕ) → k < count → length (text_over (line_of over unit run k) column) ≤ size_over over column

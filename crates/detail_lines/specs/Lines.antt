@@ -28,7 +28,7 @@ abbrev pub parent_place : Project → Detail → ℕ
 parent_place plan detail = unwrap_or (table_named plan.schema detail.parent) 0
 
 -- what lines take from a detail table: the seed that it declares, the fewest and the most lines of a row, and its columns, as many as are its
--- own. Behind these stands the reference to the parent
+-- own. After these stands the reference to the parent
 pub record DetailLayout : Type 0 where
   pub seed : ℕ
   pub least : ℕ

@@ -59,7 +59,7 @@ detail_seed kept = table_seed (count kept.detail.seed) 0
 abbrev pub column_seeds : Kept → List ℕ
 column_seeds kept = map (column_seed (detail_seed kept)) (range_with_len 0 (length kept.detail.columns))
 
--- the byte behind the field of the column at a place
+-- the byte after the field of the column at a place
 abbrev pub behind_over : LinesOver → ℕ → ℕ
 behind_over over column = behind (delimiter_over over) (own_over over) column
 
@@ -75,14 +75,14 @@ prepared_column over column =
 abbrev pub prepared_columns : LinesOver → List DrawnColumnOf
 prepared_columns over = map (prepared_column over) (range_with_len 0 (own_over over))
 
--- of a column of the parent, that one prepared for runs, with the byte behind the line's field; None of any other kind
+-- of a column of the parent, that one prepared for runs, with the byte after the line's field; None of any other kind
 abbrev pub shown_column : LinesOver → ℕ → Option RunColumnOf
 shown_column over column = shown_by over.plan (behind_over over column) (ready_over over column).kind
 
 abbrev pub shown_columns : LinesOver → List (Option RunColumnOf)
 shown_columns over = map (shown_column over) (range_with_len 0 (own_over over))
 
--- the numbers 0 to 64, each with the delimiter behind it
+-- the numbers 0 to 64, each with the delimiter after it
 abbrev pub number_texts : ℕ → List (List ℕ)
 number_texts delimiter = map (λ number. with_behind delimiter (decimal number)) (range_with_len 0 65)
 

@@ -412,7 +412,7 @@ impl<'a> DetailLines<'a> {
         self.plan
     }
 
-    /// Returns the columns, ready for lines, and behind them the reference to the parent.
+    /// Returns the columns, ready for lines, and after them the reference to the parent.
     pub(crate) fn ready(&self) -> &'a [ReadyColumn]
         ensures value { result.now ≡ self.now.kept.columns }
         ensures keeps { KeepsRules self.now.plan self.now.kept }

@@ -1,4 +1,4 @@
--- A detail table as a table beside a schema. Behind its own columns stands one more without a name: the reference to the parent, by which a
+-- A detail table as a table beside a schema. After its own columns stands one more without a name: the reference to the parent, by which a
 -- column of the kind `parent` is a lookup.
 use Rattle.std.specs.Prelude.{ℕ, pos, List, [], ◌∷◌, ◌++◌, map, false, None}
 use Rattle.schema_model.specs.declared.column.Column.{Column}

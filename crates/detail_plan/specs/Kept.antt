@@ -9,7 +9,7 @@ use Rattle.detail_plan.specs.Beside.{columns_beside}
 use Rattle.detail_plan.specs.Rules.{facts_of, first_broken, reach_of}
 
 -- the detail table, all word lists, its columns ready for rows with their facts, and the greatest size of all lines of a row of the parent.
--- Behind its own columns stands the reference to the parent
+-- After its own columns stands the reference to the parent
 pub record Kept : Type 0 where
   pub detail : Detail
   pub lists : List Dictionary

@@ -1,5 +1,5 @@
 -- The rules of a detail table over a schema, E1 to E6, and the first that is broken. The word lists are all that there are: the schema's
--- and those that are handed in behind them.
+-- and those that are handed in after them.
 use Rattle.std.specs.Prelude.{ℕ, pos, ◌+◌, ◌*◌, List, [], ◌∷◌, Bool, true, false, not, ◌&&◌, Option, Some, None, filter, int_le, is_some, length, nat_le, option_map}
 use Rattle.std.specs.List.{list_all, range_with_len}
 use Rattle.schema_model.specs.declared.column.Column.{Column}
@@ -36,7 +36,7 @@ citations_of plan detail = option_map (filter (is_new_list plan)) (citable_in (c
 abbrev pub facts_of : Project → Detail → List ColumnFacts
 facts_of plan detail = facts_beside plan (table_beside detail)
 
--- the greatest size of a line, in bytes: its number with the byte behind it takes 3, and the parent's key is the field of the reference
+-- the greatest size of a line, in bytes: its number with the byte after it takes 3, and the parent's key is the field of the reference
 abbrev pub line_size : Project → List Dictionary → Detail → ℕ
 line_size plan lists detail = line_beside plan lists (columns_beside detail) + 3
 

@@ -151,7 +151,7 @@ fn reference_to(alloc: Global, parent: &Text) -> Result<Column, Memory>
     })
 }
 
-/// Returns the columns of a detail table, and behind them the reference to its parent. Refuses if memory is wanting.
+/// Returns the columns of a detail table, and after them the reference to its parent. Refuses if memory is wanting.
 pub(crate) fn columns_beside(alloc: Global, detail: &Detail) -> Result<Columns, Memory>
     ensures { IfOk result (λ columns. columns ≡ columns_beside detail.now) }
 {

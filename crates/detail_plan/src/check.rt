@@ -32,7 +32,7 @@ impl From<Memory> for DetailFault {
 }
 
 /// Returns the plan of a detail table that keeps its rules over a schema's plan. Refuses any other for the first rule that it breaks. The
-/// dictionaries that are handed in stand behind those of the schema. At a fault the detail table and they are dropped.
+/// dictionaries that are handed in stand after those of the schema. At a fault the detail table and they are dropped.
 pub fn check_detail(
     alloc: Global,
     plan: &Plan,

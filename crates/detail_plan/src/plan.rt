@@ -7,7 +7,7 @@ use schema_plan::{Plan, ReadyColumn};
 use std::marker::Model;
 
 /// A detail table that keeps its rules over a plan, with all word lists, and what doesn't change from line to line. A column is named by its
-/// place in the file, counted from 0. Behind the last one stands the reference to the parent, by which columns of the parent are lookups.
+/// place in the file, counted from 0. After the last one stands the reference to the parent, by which columns of the parent are lookups.
 pub struct DetailPlan {
     detail: Detail,
     lists: Dictionaries,
@@ -77,7 +77,7 @@ impl DetailPlan {
         &self.detail
     }
 
-    /// Returns the columns, ready for lines, and behind them the reference to the parent.
+    /// Returns the columns, ready for lines, and after them the reference to the parent.
     pub fn columns(&self) -> &[ReadyColumn]
         ensures { result.now ≡ self.now.columns }
     {

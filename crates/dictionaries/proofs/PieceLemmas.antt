@@ -1,4 +1,4 @@
--- The pieces of a text, and one piece more behind them.
+-- The pieces of a text, and one piece more after them.
 use Rattle.std.proofs.Common.{◌≡◌, ℕ, zero, suc, ◌-◌, ◌<◌, ◌≤◌, List, [], ◌∷◌, ◌++◌, Some, length, get_or, take, drop, refl, ap, sym, ◌∙◌, inl, inr, arith}
 use Rattle.std.proofs.lemmas.Bool.{cases_lt}
 use Rattle.std.proofs.lemmas.List.{length-append, get_or_append_left, take_all, drop_at, drop-append-le, take-append-le, length-drop}
@@ -71,7 +71,7 @@ IsCutFrom-push start text [] more utf8 cut =
 IsCutFrom-push start text (end ∷ ends) more utf8 cut =
     (cut.0, IsCharBoundary-append text more end utf8 cut.1, IsCutFrom-push end text ends more utf8 cut.2)
 
--- the range of a text is that of the text with more behind it
+-- the range of a text is that of the text with more after it
 slice_range-append : (text more : List ℕ) (start end : ℕ) → start ≤ end → end ≤ length text →
     slice_range (text ++ more) start end ≡ slice_range text start end
 slice_range-append text more start end ordered fits =

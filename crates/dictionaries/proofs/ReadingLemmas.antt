@@ -39,7 +39,7 @@ pub record AreRead (text : List ℕ) (n : ℕ) (entries : List (List ℕ)) (weig
 pub AreRead-none : (text : List ℕ) → AreRead text 0 [] []
 AreRead-none text = record { right = refl; texts = refl; weighed = refl }
 
--- a line behind the first n
+-- a line after the first n
 line-is : (text : List ℕ) (n : ℕ) (part : List ℕ) → n < length (slice_split is_line_feed text) →
     part ≡ get_or (slice_split is_line_feed text) n part →
     let line = numbered_line (n + 1) (strip_carriage_return part) in
@@ -103,7 +103,7 @@ first_fault_from-append entry (x ∷ xs) ys =
     ∙ option_or-assoc own (first_fault_from (entry + 1) xs) (first_fault_from (entry + 1 + length xs) ys)
     ∙ ap (λ (n : ℕ). option_or (option_or own (first_fault_from (entry + 1) xs)) (first_fault_from n ys)) later
 
--- where lines are right, the first fault of more lines is that of those behind them
+-- where lines are right, the first fault of more lines is that of those after them
 first_fault_from-behind : (xs ys : List Line) → first_fault_from 1 xs ≡ None → first_fault_from 1 (xs ++ ys) ≡ first_fault_from (length xs + 1) ys
 first_fault_from-behind xs ys right =
     let place : 1 + length xs ≡ length xs + 1 = omega arith in
@@ -134,7 +134,7 @@ AreRead-more text n part entries weights weight within at filled fine named so_f
       weighed = rw (more, so_far.weighed, map-append, named) refl;
     }
 
--- the lines with an entry: those of the first n lines, and those behind them
+-- the lines with an entry: those of the first n lines, and those after them
 entry_lines-split : (text : List ℕ) (n : ℕ) → entry_lines text ≡ entries_before text n ++ filter has_entry (drop n (numbered text))
 entry_lines-split text n =
     ap (filter has_entry) (sym (take-append-drop n (numbered text))) ∙ filter-append has_entry (take n (numbered text)) (drop n (numbered text))

@@ -69,7 +69,7 @@ is_weight digits =
 abbrev pub weight_named : List ℕ → Option ℕ
 weight_named digits = if is_weight digits then Some (digits_value 10 digits) else None
 
--- the weight: the one that is named behind the first tab, and 1 where there is no tab
+-- the weight: the one that is named after the first tab, and 1 where there is no tab
 abbrev pub weight_of : List ℕ → Option ℕ
 weight_of line = if list_any is_tab line then weight_named (after_first is_tab line) else Some 1
 

@@ -16,6 +16,6 @@ unfoldable pub written_lines : List (List ℕ) → List ℕ → List ℕ
 written_lines (entry ∷ entries) (weight ∷ weights) = written_line entry weight ++ 10 ∷ written_lines entries weights
 written_lines entries weights = []
 
--- the lines of a word list, behind a byte order mark
+-- the lines of a word list, after a byte order mark
 abbrev pub written_list : WordList → List ℕ
 written_list list = byte_order_mark ++ written_lines list.entries list.weights

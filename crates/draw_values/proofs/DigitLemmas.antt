@@ -24,7 +24,7 @@ length-last_digits (suc count) n =
       length-last_digits count (n / 10),
     )
 
--- the last digit moves into the text behind
+-- the last digit moves into the text after it
 last_digits-before : (count n : ℕ) (text : List ℕ) → last_digits (suc count) n ++ text ≡ last_digits count (n / 10) ++ (48 + n % 10) ∷ text
 last_digits-before count n text =
     ap (λ (digits : List ℕ). digits ++ text) (last_digits-suc count n)
@@ -45,7 +45,7 @@ pub all_moved : (left n : ℕ) (text whole : List ℕ) → left ≡ 0 → last_d
 all_moved left n text whole none so_far =
     sym (ap (λ (digits : List ℕ). digits ++ text) (ap (λ (count : ℕ). last_digits count n) none ∙ last_digits-zero n)) ∙ so_far
 
--- such digits, and a byte behind them
+-- such digits, and a byte after them
 pub length-fraction : (count n : ℕ) (fraction behind : List ℕ) → fraction ≡ last_digits count n ++ behind → length behind ≡ 1 → length fraction ≡ count + 1
 length-fraction count n fraction behind is one =
     omega (arith, ap length is, length-append (last_digits count n) behind, length-last_digits count n, one)
@@ -59,7 +59,7 @@ pub pointed-none : (decimals n : ℕ) → decimals ≤ 0 → pointed decimals n 
 pointed-none zero n none = let same : n ≡ n / 1 = omega arith in ap decimal same
 pointed-none (suc decimals) n none = absurd (omega arith)
 
--- what stands before the point, with as many digits behind it, has 19 digits at most
+-- what stands before the point, with as many digits after it, has 19 digits at most
 pub length-before_point : (decimals n : ℕ) → decimals ≤ 9 → n ≤ 2 ^ 63 → length (decimal (n / 10 ^ decimals)) + decimals ≤ 19
 length-before_point decimals n few small =
     let all : 19 - decimals + decimals ≡ 19 = omega arith in

@@ -4,7 +4,7 @@ use Rattle.std.specs.List.{join_with_byte, range_with_len}
 use Rattle.std.proofs.lemmas.Bool.Decides.{nat_tests}
 use Rattle.std.proofs.lemmas.List.FromFn.{length-map-range_with_len, map-range_with_len_more}
 
--- one more piece behind others: the byte goes before it
+-- one more piece after others: the byte goes before it
 join_with_byte-append : (c : ℕ) (first : List ℕ) (pieces : List (List ℕ)) (piece : List ℕ) → join_with_byte c ((first ∷ pieces) ++ piece ∷ []) ≡ join_with_byte c (first ∷ pieces) ++ ((c ∷ []) ++ piece)
 join_with_byte-append c first [] piece = refl
 join_with_byte-append c first (second ∷ pieces) piece =
@@ -19,7 +19,7 @@ join_with_byte-push c (first ∷ pieces) piece n count =
     join_with_byte-append c first pieces piece
     ∙ ap (λ (between : List ℕ). join_with_byte c (first ∷ pieces) ++ (between ++ piece)) (sym later)
 
--- one more field of a line, behind the first ones
+-- one more field of a line, after the first ones
 pub join_with_byte-range_more : (c : ℕ) (f : ℕ → List ℕ) (n : ℕ) (old text : List ℕ) → text ≡ old ++ join_with_byte c (map f (range_with_len 0 n)) →
     (text ++ (if n == 0 then [] else c ∷ [])) ++ f n ≡ old ++ join_with_byte c (map f (range_with_len 0 (n + 1)))
 join_with_byte-range_more c f n old text text_is =

@@ -55,7 +55,7 @@ choices_more behind text n pieces piece so_far here =
     ∙ sym (map-append (with_behind behind) (map text (range_with_len 0 n)) (text n ∷ []))
     ∙ ap (map (with_behind behind)) (sym (map-range_with_len_more text 0 n n (omega arith)))
 
--- the same of texts with no byte behind them
+-- the same of texts with no byte after them
 pub bare_more : (texts : List (List ℕ)) (i : ℕ) (text : List ℕ) (pieces : List Piece) (piece : Piece) → i < length texts → slice_get texts i ≡ Some text → map piece_text pieces ≡ take i texts →
     piece_text piece ≡ text → map piece_text (pieces ++ piece ∷ []) ≡ take (i + 1) texts
 bare_more texts i text pieces piece within found so_far here =

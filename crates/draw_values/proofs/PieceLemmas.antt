@@ -27,7 +27,7 @@ text-written text pieces i piece within so_far here =
     (λ k below. text-set_other pieces i k piece (omega arith) (omega arith) ∙ so_far k below)
     (text-set_same pieces i piece within ∙ here)
 
--- and those behind it are as they were
+-- and those after it are as they were
 pub text-kept : (text : ℕ → List ℕ) (pieces : List Piece) (i : ℕ) (piece : Piece) → ((k : ℕ) → i < k + 1 → k < length pieces → get_or (map piece_text pieces) k [] ≡ text k) →
     (k : ℕ) → i + 1 < k + 1 → k < length (set pieces i piece) → get_or (map piece_text (set pieces i piece)) k [] ≡ text k
 text-kept text pieces i piece so_far k past within =

@@ -25,7 +25,7 @@ short_past lo past short few =
     let low = short_number lo short in
     omega (arith, ints)
 
--- what stands before the point of a short number, with as many digits behind it
+-- what stands before the point of a short number, with as many digits after it
 pub length-before_short_point : (decimals n : ℕ) → decimals ≤ 9 → n < 10 ^ 13 → length (decimal (n / 10 ^ decimals)) + decimals ≤ 13
 length-before_short_point decimals n few small =
     let all : 13 - decimals + decimals ≡ 13 = omega arith in

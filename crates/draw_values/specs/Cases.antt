@@ -12,7 +12,7 @@ use Rattle.draw_values.specs.Values.{Draws, is_null}
 abbrev pub entry_drawn : ReadyKind → Draws → ℕ
 entry_drawn held draw = unwrap_or (ready_entry held draw) 0
 
--- what is written for a case that isn't null, by its own draws and those of its pick column, with the byte behind it
+-- what is written for a case that isn't null, by its own draws and those of its pick column, with the byte after it
 abbrev pub branch_text : RunColumnOf → ReadyKind → List ReadyLeaf → Draws → Draws → List ℕ
 branch_text run pick branches own_draws pick_draws =
     with_behind run.behind (text_by (ready_branch branches (entry_drawn pick pick_draws)) (own_draws 1))

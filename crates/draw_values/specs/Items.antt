@@ -71,7 +71,7 @@ itemized_field plan run at =
     itemized_by (ready_at plan run.table run.column)
     (row_seed (unit_seed run.seed (if (ready_at plan run.table run.column).changes then at.changed else at.born)) at.ordinal)
 
--- what is written for the field, with the byte behind it
+-- what is written for the field, with the byte after it
 abbrev pub field_behind : Project → RunColumnOf → RowAt → List ℕ
 field_behind plan run at =
     with_behind run.behind (field_text (layout_of plan).delimiter (value_at (layout_of plan) run.table run.column at))

@@ -1,4 +1,4 @@
--- The fields of a column over a run of rows, each with the byte behind it, and what is kept of the column so that they are made fast.
+-- The fields of a column over a run of rows, each with the byte after it, and what is kept of the column so that they are made fast.
 use Rattle.std.specs.Prelude.{◌≡◌, ◌<◌, ◌≤◌, ℕ, ℤ, pos, ◌^◌, ◌+ℤ◌, ◌&&◌, List, [], ◌∷◌, ◌++◌, Bool, true, false, Option, None, Some, ⊤, if◌then◌else◌, codes, decimal, length, map, nat_le, nat_lt, slice_index, unsigned_abs}
 use Rattle.std.specs.List.{list_all, range_with_len}
 use Rattle.philox_seeds.specs.SeedTree.{column_seed, draw, row_seed, table_seed, unit_seed}
@@ -40,7 +40,7 @@ pub record AreRunRows (units count : ℕ) (rows : RunRows) : Type 0 where
 abbrev pub HaveDays : ReadyKind → ℕ → RunRows → Type 0
 HaveDays held count rows = (i : ℕ) → i < count → HasDay held (run_row rows i)
 
--- a text of at most 15 bytes makes a piece with the byte behind it
+-- a text of at most 15 bytes makes a piece with the byte after it
 abbrev pub is_short_text : List ℕ → Bool
 is_short_text text = nat_lt (length text) 16
 
@@ -104,15 +104,15 @@ choices_kept (leaf.Pick entries weights total) = entries
 choices_kept (leaf.Dict words) = if nat_lt 65536 (length words.entries) then [] else words.entries
 choices_kept _ = []
 
--- a text with the byte behind it
+-- a text with the byte after it
 abbrev pub with_behind : ℕ → List ℕ → List ℕ
 with_behind behind text = text ++ behind ∷ []
 
--- a null field with a byte behind it
+-- a null field with a byte after it
 abbrev pub null_behind : ℕ → List ℕ
 null_behind behind = with_behind behind (codes "\\N")
 
--- what is kept of a drawn value, and of a column: such texts with the byte behind them, where all are short, or the items of several;
+-- what is kept of a drawn value, and of a column: such texts with the byte after them, where all are short, or the items of several;
 -- of a list what is kept of one of its words
 abbrev pub leaf_texts : ℕ → ReadyLeaf → List (List ℕ)
 leaf_texts behind drawn =
@@ -128,7 +128,7 @@ abbrev pub chooser_seed : ℕ → ReadyKind → Option ℕ
 chooser_seed seed (kind.Case on branches) = Some (column_seed seed on)
 chooser_seed seed _ = None
 
--- a column that is prepared for runs: its seed and that of the column that its cases go by, its place, the byte behind its fields, whether they are known to be short or to be of
+-- a column that is prepared for runs: its seed and that of the column that its cases go by, its place, the byte after its fields, whether they are known to be short or to be of
 -- several short items, and the texts that are kept of it
 pub record RunColumnOf : Type 0 where
   pub seed : ℕ
@@ -140,7 +140,7 @@ pub record RunColumnOf : Type 0 where
   pub itemized : Bool
   pub texts : List (List ℕ)
 
--- a column that is prepared for runs by itself: its seed, the byte behind its fields, whether each is known to be short, whether each has
+-- a column that is prepared for runs by itself: its seed, the byte after its fields, whether each is known to be short, whether each has
 -- several short items, and the texts that are kept of it
 pub record DrawnColumnOf : Type 0 where
   pub seed : ℕ
@@ -149,7 +149,7 @@ pub record DrawnColumnOf : Type 0 where
   pub itemized : Bool
   pub texts : List (List ℕ)
 
--- a column of some kind prepared, with a seed and a byte behind its fields
+-- a column of some kind prepared, with a seed and a byte after its fields
 abbrev pub drawn_column : ReadyKind → ℕ → ℕ → DrawnColumnOf
 drawn_column held seed behind = record {
   seed = seed;
@@ -167,7 +167,7 @@ drawn_of run = record { seed = run.seed; behind = run.behind; short = run.short;
 abbrev pub ready_at : Project → ℕ → ℕ → ReadyColumn
 ready_at plan table column = ready_column (layout_of plan).delimiter (column_at (table_at (layout_of plan).tables table).columns column)
 
--- that column prepared for runs, with a byte behind its fields
+-- that column prepared for runs, with a byte after its fields
 abbrev pub run_column : Project → ℕ → ℕ → ℕ → RunColumnOf
 run_column plan table column behind = record {
   seed = column_seed (table_seed (layout_of plan).seed table) column;
@@ -204,7 +204,7 @@ short_value seed changes (kind.List list) rows i = ready_entry_in_turn list (run
 short_value seed changes (kind.UnitDate date) rows i = date_text (ready_day date (run_row rows i))
 short_value seed changes _ rows i = []
 
--- what is written for the field of the row at a place of a run in such a column, with the byte behind it
+-- what is written for the field of the row at a place of a run in such a column, with the byte after it
 abbrev pub drawn_field : DrawnColumnOf → ReadyColumn → RunRows → ℕ → List ℕ
 drawn_field column ready rows i =
     if is_null ready.null (draw (run_seed column.seed ready.changes rows i))
@@ -217,7 +217,7 @@ IsReadyDrawn (kind.Drawn drawn) = IsReady drawn
 IsReadyDrawn (kind.List list) = IsReadyList list
 IsReadyDrawn _ = ⊤
 
--- what is written for the row at a place of a run, with the byte behind it
+-- what is written for the row at a place of a run, with the byte after it
 abbrev pub run_field : Project → RunColumnOf → RunRows → ℕ → List ℕ
 run_field plan run rows i =
     with_behind run.behind (field_text (layout_of plan).delimiter (value_at (layout_of plan) run.table run.column (run_row rows i)))
@@ -240,7 +240,7 @@ number_in plan run at =
     own_number (draws_at (layout_of plan) run.table at run.column)
     (column_at (table_at (layout_of plan).tables run.table).columns run.column).kind
 
--- a null field with the byte behind it
+-- a null field with the byte after it
 abbrev pub null_text : RunColumnOf → List ℕ
 null_text run = null_behind run.behind
 

@@ -55,7 +55,7 @@ pub all-made : (statements : List Statement) (before now : Store) → now ≡ pe
 all-made statements before now made =
     record { count = length statements; within = omega arith; made = made ∙ ap (λ (some : List Statement). perform_all some before) (sym (take-length statements)) }
 
--- some behind others
+-- some after others
 pub made-behind : (all xs ys zs : List Statement) (before between now : Store) → all ≡ xs ++ (ys ++ zs) → between ≡ perform_all xs before → AreMade ys between now → AreMade all before now
 made-behind all xs ys zs before between now parts first last =
     record {

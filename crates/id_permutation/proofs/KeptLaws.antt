@@ -125,7 +125,7 @@ pub arrangements-more : (forms more : List Form) (entries : List ℕ) (orders : 
 arrangements-more forms more entries orders kept are =
     map-alike (arrangement_of more) (arrangement_of forms) orders (λ k d h. arrangement_of-more forms more (get_or orders k d) are (kept.each k d h).known)
 
--- and the new one stands behind them
+-- and the new one stands after them
 pub arrangements-new : (forms more : List Form) (entries : List ℕ) (orders all : List KeptOrder) (order : KeptOrder) (form : Form) → AreKept forms entries orders → AreMore forms more → all ≡ orders ++ order ∷ [] → form_at more order.form ≡ form → map (arrangement_of more) all ≡ map (arrangement_of forms) orders ++ arrangement_by form order.seed ∷ []
 arrangements-new forms more entries orders all order form kept are appended at =
     ap (map (arrangement_of more)) appended

@@ -37,7 +37,7 @@ IsSmall (InPlace size) = Unit {0}
 IsSmall (Rounds size) = Unit {0}
 IsSmall (Tables size) = size ≤ 2 ^ 32
 
--- and the entries are counted in 32 bits, behind as many as are kept
+-- and the entries are counted in 32 bits, after as many as are kept
 abbrev pub IsCountable : Form → ℕ → Type 0
 IsCountable (InPlace size) kept = Unit {0}
 IsCountable (Rounds size) kept = Unit {0}

@@ -15,6 +15,6 @@ round_values seed i modulus count = map (λ v. round_number seed i v % modulus) 
 unfoldable pub pair_values : ℕ → ℕ → ℕ → ℕ → List ℕ
 pair_values a b seed pair = round_values seed (2 * pair) a b ++ round_values seed (2 * pair + 1) b a
 
--- the tables of the six rounds over a rectangle of height a and width b, one behind the other
+-- the tables of the six rounds over a rectangle of height a and width b, one after the other
 unfoldable pub tables_of : ℕ → ℕ → ℕ → List ℕ
 tables_of a b seed = pair_values a b seed 0 ++ pair_values a b seed 1 ++ pair_values a b seed 2

@@ -61,7 +61,7 @@ stopped-one statement before now unchanged = record { count = 0; within = omega 
 
 -- ---- items one after the other
 
--- a list, up to one of its items, with it, and behind it
+-- a list, up to one of its items, with it, and after it
 pub items-at : {X Y : Type 0} (f : X → Y) (xs : List X) (i : ℕ) (d : X) → i < length xs →
     map f xs ≡ map f (take i xs) ++ ((f (get_or xs i d) ∷ []) ++ map f (drop (suc i) xs))
 items-at f xs i d within =

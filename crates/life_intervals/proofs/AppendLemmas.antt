@@ -1,4 +1,4 @@
--- Lists with rows behind them.
+-- Lists with rows after them.
 use Rattle.std.proofs.Common.{◌≡◌, ℕ, ◌+◌, ◌-◌, ◌*◌, ◌<◌, ◌≤◌, drop, take, List, [], ◌∷◌, ◌++◌, inl, inr, length, map, ◌⊎◌, ap, ap₂, arith, subst, sym, ◌∙◌}
 use Rattle.std.specs.Prelude.{All, Contains}
 use Rattle.std.specs.List.{range_with_len}
@@ -14,12 +14,12 @@ use Rattle.std.proofs.lemmas.List.Sorted.{Contains-permutation, IsPermutation-ap
 use Rattle.life_intervals.specs.FoundAt.{AreAppended, GoesOn}
 use Rattle.life_intervals.proofs.Ranges.{range_with_len-add}
 
--- one number more behind a list and a range
+-- one number more after a list and a range
 pub push-range : (xs : List ℕ) (first i : ℕ) → (xs ++ range_with_len first i) ++ (first + i) ∷ [] ≡ xs ++ range_with_len first (i + 1)
 push-range xs first i =
     append_assoc xs (range_with_len first i) ((first + i) ∷ []) ∙ ap (λ (ys : List ℕ). xs ++ ys) (sym (range_with_len-add first i 1))
 
--- ---- rows behind a list
+-- ---- rows after a list
 
 pub AreAppended-none : (rows before : List ℕ) → [] ≡ rows → AreAppended rows before before
 AreAppended-none rows before none = record {
@@ -99,9 +99,9 @@ tail-map f xs items part from len same within len_is is =
     ∙ ap (λ (ys : List ℕ). take from xs ++ ys) part_is
     ∙ ap (λ (ys : List ℕ). take from ys ++ map f (drop from ys)) same
 
--- ---- rows put over places behind a list
+-- ---- rows put over places after a list
 
--- what stands behind the list are the places
+-- what stands after the list are the places
 pub drop-behind : (before between places : List ℕ) (from : ℕ) → from ≡ length before → between ≡ before ++ places → drop from between ≡ places
 drop-behind before between places from from_is is = ap (drop from) is ∙ ap (λ (n : ℕ). drop n (before ++ places)) from_is ∙ drop-append_seam before places
 

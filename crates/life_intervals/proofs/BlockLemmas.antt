@@ -220,7 +220,7 @@ module _ (spread : List ℕ) (is : IsSpread spread) where
               ∙ ap (λ (b : Option Block). chosen_by start ++ places_of b) (sym block_is)
         ]
 
-    -- the places of a block go behind those before it
+    -- the places of a block go after those before it
     pub chosen-push : (number : ℕ) (block : Block) (before between after : List ℕ) → number % count ≡ candidate → block_below spread size number ≡ Some block →
         between ≡ before ++ chosen_by (block_start spread number) → after ≡ between ++ range_with_len block.first block.size → after ≡ before ++ chosen_by (block_start spread (number + count))
     chosen-push number block before between after own block_is so_far put =

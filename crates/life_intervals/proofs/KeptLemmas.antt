@@ -31,7 +31,7 @@ kept-found of_unit kept unit x is within found = sym (get_or_from_slice_get kept
 pub IsKeptByUnit-none : {X : Type 0} (of_unit : ℕ → X) (kept : List X) → kept ≡ [] → IsKeptByUnit of_unit kept
 IsKeptByUnit-none of_unit kept none = IsKeptByUnit-all of_unit kept 0 none
 
--- what holds of each item at its place, and of one more behind them
+-- what holds of each item at its place, and of one more after them
 pub each-more : {X : Type 0} (P : ℕ → X → Type 0) (xs more : List X) (x : X) (n : ℕ) → length xs ≡ n → more ≡ xs ++ x ∷ [] → ((k : ℕ) (d : X) → k < length xs → P k (get_or xs k d)) → P n x →
     (k : ℕ) (d : X) → k < length more → P k (get_or more k d)
 each-more P xs more x n count is each last k d below =

@@ -27,7 +27,7 @@ IsSure units known sure =
     (unit index age : ℕ) → unit ≤ units → index < cohort_size known.table.births unit → is_after sure age ≡ true →
     is_after (known.death unit index) (unit + age) ≡ true
 
--- what is left of a sure life behind a window
+-- what is left of a sure life after a window
 abbrev pub less_window : Option ℕ → Option ℕ → Option ℕ
 less_window window sure = option_map (λ life. life - unwrap_or window 0) sure
 
@@ -52,7 +52,7 @@ sure-now None sure is = rw is refl
 sure-now (Some units) None is = refl
 sure-now (Some units) (Some life) is = lt-ltb 0 (life - units) (omega (arith, is))
 
--- a row that is born in a window lives on behind it for what is left of the sure life
+-- a row that is born in a window lives on after it for what is left of the sure life
 window-alive : (units : ℕ) (known : Known) (sure : Option ℕ) → IsSure units known sure → (window : Option ℕ) (unit ordinal age : ℕ) → unit ≤ units → IsWithinLife window sure →
     first_in_window known.table.births window unit ≤ ordinal → ordinal < born_count known.table.births unit → is_after (less_window window sure) age ≡ true →
     is_after (death_by known unit ordinal) (unit + age) ≡ true

@@ -106,7 +106,7 @@ before_more table column below =
     ∙ references_in-more 0 table.columns column below
     ∙ ap (λ (k : ℕ). references_before table column ++ cons_option (reference_of k (column_at table.columns column).kind) []) (zero-add column)
 
--- a column that is a reference comes behind those before
+-- a column that is a reference comes after those before
 pub references_before-some : (table : TableLayout) (column : ℕ) (reference : Reference) → column < length table.columns → reference_at table column ≡ Some reference →
     references_before table (column + 1) ≡ references_before table column ++ reference ∷ []
 references_before-some table column reference below is =

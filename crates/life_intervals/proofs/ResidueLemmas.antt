@@ -45,7 +45,7 @@ module _ (modulus remainder : ℕ) (below : remainder < modulus) where
       ∙ filter-append leaves (range_with_len place 1) (range_with_len (place + 1) rest)
       ∙ ap₂ (λ (ys zs : List ℕ). ys ++ zs) one none)
 
-  -- one more is put behind a list
+  -- one more is put after a list
   pub leaving-push : (size place : ℕ) (before between after : List ℕ) → place % modulus ≡ remainder → place < size →
       between ≡ before ++ places_leaving modulus remainder (min size place) → after ≡ between ++ place ∷ [] → after ≡ before ++ places_leaving modulus remainder (min size (place + modulus))
   leaving-push size place before between after own inside so_far put =

@@ -28,7 +28,7 @@ use Rattle.life_intervals.proofs.RowLemmas.{aged_row, aged_rows, kept-live_row, 
 
 -- ---- the ordinals of cohorts
 
--- the ordinals that are born by a unit are those of its cohort, behind those born before it
+-- the ordinals that are born by a unit are those of its cohort, after those born before it
 pub range-cohort : (table : TableLayout) (unit : ℕ) → range_with_len 0 (born_count table.births unit) ≡ range_with_len 0 (first_ordinal table.births unit) ++ range_with_len (first_ordinal table.births unit) (cohort_size table.births unit)
 range-cohort table unit =
     ap (range_with_len 0) (born_count-next table.births unit) ∙ range_with_len-add 0 (first_ordinal table.births unit) (cohort_size table.births unit)

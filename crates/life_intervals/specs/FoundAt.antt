@@ -44,12 +44,12 @@ abbrev pub rows_leaving : Project → ℕ → Purpose → ℕ → ℕ → ℕ �
 rows_leaving plan table purpose born modulus remainder =
     filter (λ ordinal. place_for plan table purpose born ordinal % modulus == remainder) (newborn (generator_of plan) table born)
 
--- a list is another with something behind it
+-- a list is another with something after it
 pub record GoesOn (before after : List ℕ) : Type 0 where
   pub behind : List ℕ
   pub is : after ≡ before ++ behind
 
--- a list is another with some rows behind it, each once, in some order
+-- a list is another with some rows after it, each once, in some order
 pub record AreAppended (rows before after : List ℕ) : Type 0 where
   pub behind : List ℕ
   pub is : after ≡ before ++ behind

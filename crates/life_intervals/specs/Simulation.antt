@@ -46,7 +46,7 @@ abbrev pub parents_left : State → List Reference → List (Option ℕ) → Lis
 parents_left state references parents =
     map (λ (at : Reference × Option ℕ). if is_lost state at then None else at.1) (zip references parents)
 
--- a row after the deletions of a unit, which `earlier`, the tables before its own, have behind them; None where its own life ends
+-- a row after the deletions of a unit, which `earlier`, the tables before its own, have been through; None where its own life ends
 -- or a parent is gone that takes it along. Where it loses another it changes
 abbrev pub kept : ℕ → State → TableLayout → Row → Option Row
 kept unit earlier table row =
@@ -79,7 +79,7 @@ without_dead unit earlier (table, rows) = filter_map (kept unit earlier table) r
 abbrev pub with_changes : ℕ → State → TableLayout × List Row → List Row
 with_changes unit earlier (table, rows) = map (waited unit table) rows
 
--- a table's rows, and behind them those born at a unit
+-- a table's rows, and after them those born at a unit
 abbrev pub with_cohort : Order → ℕ → State → TableLayout × List Row → List Row
 with_cohort order unit earlier (table, rows) = rows ++ cohort order unit earlier table
 

@@ -29,7 +29,7 @@ sign-within (byte ∷ bytes) = of_test (byte == 45)
 length-zeros : (zeros : ℕ) → length {A = ℕ} (replicate zeros 48) ≡ zeros
 length-zeros zeros = length-replicate zeros 48
 
--- bytes whose last ones are copied behind a gap: what stands before the gap, and from its end on
+-- bytes whose last ones are copied after a gap: what stands before the gap, and from its end on
 before-gap : (bytes : List ℕ) (digits zeros len : ℕ) → digits ≤ len → len + zeros ≤ length bytes →
     take digits (paste bytes (digits + zeros) (drop digits bytes) (len - digits)) ≡ take digits bytes
 before-gap bytes digits zeros len before within =
@@ -54,7 +54,7 @@ behind-gap bytes digits zeros len before within =
     ∙ ap (λ (n : ℕ). drop n (first ++ rest)) (sym long)
     ∙ drop-append_seam first rest
 
--- the bytes behind a place of the text are copied behind a gap, and zeros fill the gap
+-- the bytes after a place of the text are copied after a gap, and zeros fill the gap
 gap-filled : (bytes copied filling : List ℕ) (digits zeros len n : ℕ) → digits ≤ len → len + zeros ≤ length bytes →
     copied ≡ paste bytes (digits + zeros) (drop digits bytes) (len - digits) → filling ≡ replicate zeros 48 → n ≡ zeros →
     put_mid digits n copied filling

@@ -6,7 +6,7 @@ abbrev pub sign_size : List ℕ → ℕ
 sign_size [] = 0
 sign_size (byte ∷ bytes) = if byte == 45 then 1 else 0
 
--- a text with so many zeros in it, behind a minus sign and before all else
+-- a text with so many zeros in it, after a minus sign and before all else
 abbrev pub with_zeros : ℕ → List ℕ → List ℕ
 with_zeros zeros text = take (sign_size text) text ++ replicate zeros 48 ++ drop (sign_size text) text
 

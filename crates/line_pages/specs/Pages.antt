@@ -6,7 +6,7 @@ pub record Page : Type 0 where
   pub text : List ℕ
   pub room : ℕ
 
--- the text is within the room, behind which lie the bytes that a piece may overwrite
+-- the text is within the room, after which lie the bytes that a piece may overwrite
 pub record IsWithinRoom (len room size : ℕ) : Type 0 where
   pub text : len ≤ room
   pub slack : size ≡ room + 16

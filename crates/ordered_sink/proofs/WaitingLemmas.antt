@@ -55,7 +55,7 @@ page_of-found text end n pages page are is =
           (cc, found.1)
     ]
 
--- a choice of a page, or else of what comes behind it
+-- a choice of a page, or else of what comes after it
 pub is_some-behind : (here : Bool) (page : Numbered) (behind : Option Numbered) → is_some behind ≡ true → is_some (if here then Some page else behind) ≡ true
 is_some-behind true page behind some = refl
 is_some-behind false page behind some = some

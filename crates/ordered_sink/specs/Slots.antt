@@ -9,7 +9,7 @@ pages_from n [] = []
 pages_from n (None ∷ slots) = pages_from (n + 1) slots
 pages_from n (Some page ∷ slots) = record { n = n; page = page } ∷ pages_from (n + 1) slots
 
--- the slots have room for the round, and none is full of a page that was handed out, or behind the round's
+-- the slots have room for the round, and none is full of a page that was handed out, or after the round's
 pub record KeepsRound (slots : List (Option Page)) (first count handed : ℕ) : Type 0 where
   pub fits : count ≤ length slots
   pub range : first + count < 2 ^ 63

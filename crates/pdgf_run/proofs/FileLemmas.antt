@@ -7,7 +7,7 @@ use Rattle.pd_outside.specs.Shelf.{HoldsPrefixOf, Held, finish_files}
 use Rattle.range_workers.proofs.WriteLemmas.{finished_then, next_in_part}
 use Rattle.run_jobs.specs.Formats.{named_files}
 
--- the file at a place, with those before it and those behind it
+-- the file at a place, with those before it and those after it
 around : (names texts : List (List ℕ)) (place : ℕ) (name text : List ℕ) → slice_get names place ≡ Some name → slice_get texts place ≡ Some text →
     named_files names texts ≡ take place (named_files names texts) ++ record { name = name; bytes = text } ∷ drop (suc place) (named_files names texts)
 around [] texts place name text at_name at_text = absurd (cc)

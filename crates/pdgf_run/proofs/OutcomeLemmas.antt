@@ -81,7 +81,7 @@ one_sample false plan answer other delimits is other_is =
     one_image (IsLaterText plan) (range_with_len 0 (length plan.schema.tables)) one.0 two.0 (λ place text another. one_later plan place text another delimits) one.1 two.1 in
     is.2 ∙ ap (λ (text : List ℕ). Ok (text_files text)) (one.2 ∙ ap (summary_of plan) same ∙ sym two.2) ∙ sym other_is.2
 
--- what is behind a declaration
+-- what is after a declaration
 one_declared : (plan : Project) (r : Request) (files : List File) (declared : Result Kept DetailsCause) (answer other : Result (List File) JobFault) → IsDelimiter (layout_of plan).delimiter →
     AreDeclared plan r files declared answer → AreDeclared plan r files declared other → answer ≡ other
 one_declared plan r files (Ok kept) answer other delimits is other_is =

@@ -28,7 +28,7 @@ reads_schema mode = true
 abbrev pub if_read : Request → List (List ℕ) → List (List ℕ)
 if_read request names = if reads_schema request.mode then names else []
 
--- whether a mode reads files behind those of which a plan is made
+-- whether a mode reads files after those of which a plan is made
 abbrev pub reads_on : Mode → Bool
 reads_on Apply = true
 reads_on Details = true

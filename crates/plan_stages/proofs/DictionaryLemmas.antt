@@ -120,7 +120,7 @@ with_dictionaries-err : (files : List File) (before : List Dictionary) (name : L
 with_dictionaries-err files before name rest cause made =
     ap (λ (m : Result (List Dictionary) DictionaryCause). on_ok (in_stage (fault_at (length before + 1)) m) (λ d. with_dictionaries files d rest)) made
 
--- behind those that are known, those that were read so far, and those that are left
+-- after those that are known, those that were read so far, and those that are left
 abbrev pub IsReadSoFar : List Dictionary → List (List ℕ) → List Dictionary → ℕ → List File → Type 0
 IsReadSoFar known names so_far place files = with_dictionaries files known names ≡ with_dictionaries files (known ++ so_far) (drop place names)
 

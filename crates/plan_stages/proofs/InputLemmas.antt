@@ -40,7 +40,7 @@ taken_of_last-push : (before : List (List ℕ)) (bytes : List ℕ) (earlier : �
 taken_of_last-push [] bytes earlier = refl
 taken_of_last-push (first ∷ before) bytes earlier = taken_of_last-push before bytes (length first)
 
--- one more input behind others
+-- one more input after others
 pub length_more : (before after : List (List ℕ)) (bytes : List ℕ) → after ≡ before ++ bytes ∷ [] → length after ≡ length before + 1
 length_more before after bytes is = ap length is ∙ length-append before (bytes ∷ [])
 

@@ -26,7 +26,7 @@ use Rattle.plan_stages.specs.Stages.{told_files, IsReadOut, LibraryAfter}
 abbrev pub IsOfItself : ℕ → Type 0
 IsOfItself status = (status ≢ 5) × (status ≢ 10)
 
--- nothing was done to the library behind what was read
+-- nothing was done to the library after what was read
 pub after_done : (status limit other : ℕ) (before : Option (List File)) (now : Option Content) (taken : ℕ) (is_started : Bool) (counts_before counts_now : Counts) →
     IsOfItself status → LibraryAfter 0 limit before now taken is_started counts_before counts_now →
     LibraryAfter status other before now taken is_started counts_before counts_now

@@ -61,7 +61,7 @@ pub asks_schema_at_most : (name : List ℕ) (told : Option (List File)) (before 
 asks_schema_at_most name told before now (inl once) = asks_schema name told before now once
 asks_schema_at_most name told before now (inr never) = subst (AsksForPlan name told before) (sym never) (asks_nothing name told before)
 
--- one name, and behind it the first of a list
+-- one name, and after it the first of a list
 asked_behind : (name : List ℕ) (list : List (List ℕ)) (before mid now : Option (List (List ℕ))) → mid ≡ ask name before → AskedPrefixOf list mid now →
     AskedPrefixOf (name ∷ list) before now
 asked_behind name list before mid now once more = record {

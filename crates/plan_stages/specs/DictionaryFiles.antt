@@ -29,7 +29,7 @@ words_named name words = record { name = name; words = words }
 abbrev pub names_of : List Dictionary → List (List ℕ)
 names_of dictionaries = map (λ (dictionary : Dictionary). dictionary.name) dictionaries
 
--- some dictionaries with one more behind them, that of a name
+-- some dictionaries with one more after them, that of a name
 abbrev pub with_dictionary : List File → List Dictionary → List ℕ → Result (List Dictionary) DictionaryCause
 with_dictionary files before name = on_ok (words_in files name) (λ words. Ok (before ++ words_named name words ∷ []))
 
@@ -37,7 +37,7 @@ with_dictionary files before name = on_ok (words_in files name) (λ words. Ok (b
 abbrev pub fault_at : ℕ → DictionaryCause → DictionaryFault
 fault_at number cause = record { number = number; cause = cause }
 
--- some dictionaries with those of these names behind them, in turn; or the first fault, with the number of its dictionary,
+-- some dictionaries with those of these names after them, in turn; or the first fault, with the number of its dictionary,
 -- counted from 1 among all of them
 abbrev pub with_dictionaries : List File → List Dictionary → List (List ℕ) → Result (List Dictionary) DictionaryFault
 with_dictionaries files before [] = Ok before

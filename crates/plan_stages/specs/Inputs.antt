@@ -87,7 +87,7 @@ pub record AskedToFault (fault : UnreadInput) (names : List (List ℕ)) (taken :
 
 -- ---- one file
 
--- The file of a name was read to its end, and is put behind the inputs before it.
+-- The file of a name was read to its end, and is put after the inputs before it.
 pub record InputRead (inputs_before inputs_now : List (List ℕ)) (name : List ℕ) (limit : ℕ) (before now : Option Content) (taken_now : ℕ) (counts_before counts_now : Counts) : Type 0 where
   pub bytes : List ℕ
   pub appended : inputs_now ≡ inputs_before ++ bytes ∷ []

@@ -41,7 +41,7 @@ possible_names bytes name = name ∷ cited_in bytes
 
 -- ---- what was asked
 
--- Of a schema's dictionaries the first were asked for, in their order; where files are told, none behind the first at fault.
+-- Of a schema's dictionaries the first were asked for, in their order; where files are told, none after the first at fault.
 pub record AsksNames (names : List (List ℕ)) (files : Option (List File)) (before now : Option (List (List ℕ))) : Type 0 where
   pub told : IfSome files (λ (f : List File). AskedPrefixOf (up_to_fault f names) before now)
   pub untold : AskedPrefixOf names before now

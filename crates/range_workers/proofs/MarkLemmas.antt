@@ -24,7 +24,7 @@ end_before_none count (suc i) (mark ∷ marks) past = end_before_none count i ma
 pub end_before_told : (told count end : ℕ) (marks : List Mark) → told ≡ count → end ≡ end_before told marks → end ≡ end_before count marks
 end_before_told told count end marks same is = is ∙ ap (λ n. end_before n marks) same
 
--- the packages of a mark end behind their first one
+-- the packages of a mark end after their first one
 pub mark_ordered : (count i : ℕ) (marks : List Mark) → AreMarksOf count marks → i < length marks → (mark_at marks i).first ≤ end_before count (drop (i + 1) marks)
 mark_ordered count i marks are below =
     elim (cases_lt (i + 1) (length marks)) [
@@ -55,7 +55,7 @@ due_file-is text count i marks name first end same_name same_first same_end =
     ∙ ap (λ f. file (mark_at marks i).name f end) same_first
     ∙ ap (λ e. file (mark_at marks i).name (mark_at marks i).first e) (same_end ∙ ap (λ next. end_before count (drop next marks)) (next_is i))
 
--- it stands behind those of the marks before, and before the rest
+-- it stands after those of the marks before, and before the rest
 pub due_files-around : (text : ℕ → List ℕ) (count i : ℕ) (marks : List Mark) → i < length marks →
     due_files text count marks ≡ take i (due_files text count marks) ++ (due_file text count marks i ∷ drop (suc i) (due_files text count marks))
 due_files-around text count i [] below = absurd (omega (arith, below))

@@ -26,7 +26,7 @@ texts_split text first (suc m) n =
 pub texts_none : (text : ℕ → List ℕ) (first : ℕ) → texts text first first ≡ []
 texts_none text first = let none : first - first ≡ 0 = omega arith in ap (λ count. flat_map text (range_with_len first count)) none
 
--- the texts up to a package, that package's, and those behind it
+-- the texts up to a package, that package's, and those after it
 pub texts_around : (text : ℕ → List ℕ) (first n end : ℕ) → first ≤ n → n < end → texts text first end ≡ texts text first n ++ (text n ++ texts text (n + 1) end)
 texts_around text first n end from below =
     let parts : end - first ≡ (n - first) + suc (end - (n + 1)) = omega (arith, from, below) in
@@ -51,7 +51,7 @@ texts_joined text first mid end from below =
     ∙ texts_split text first (mid - first) (end - mid)
     ∙ ap (λ a. texts text first mid ++ flat_map text (range_with_len a (end - mid))) here)
 
--- one more text behind those that were appended
+-- one more text after those that were appended
 pub appended_then : (first second whole : List ℕ) (before mid now : Option Held) → whole ≡ first ++ second → mid ≡ option_map (append_bytes first) before →
     now ≡ option_map (append_bytes second) mid → now ≡ option_map (append_bytes whole) before
 appended_then first second whole before mid now parts so_far step =
@@ -67,7 +67,7 @@ refused_begin file before now is_begun alike none unchanged =
     let nothing = subst (λ begun. IfSome before (λ h. is_some h.begun ≡ begun)) none alike in
     subst (HoldsPrefixOf (file ∷ []) before) (sym unchanged) (nothing_done (file ∷ []) before nothing)
 
--- one file more behind those that are finished
+-- one file more after those that are finished
 pub finished_then : (first second whole : List File) (before mid now : Option Held) → whole ≡ first ++ second → mid ≡ option_map (finish_files first) before →
     now ≡ option_map (finish_files second) mid → now ≡ option_map (finish_files whole) before
 finished_then first second whole before mid now parts so_far step =
@@ -82,7 +82,7 @@ prefix_of_more rest more None prefix = tt
 prefix_of_more [] more (Some file) prefix = absurd prefix
 prefix_of_more (next ∷ rest) more (Some file) prefix = prefix
 
--- a prefix of the next file, behind those that are finished
+-- a prefix of the next file, after those that are finished
 pub next_in_part : (first : List File) (file : File) (rest whole : List File) (before mid now : Option Held) → whole ≡ first ++ (file ∷ rest) →
     mid ≡ option_map (finish_files first) before → HoldsPrefixOf (file ∷ []) mid now → HoldsPrefixOf whole before now
 next_in_part first file rest whole before mid now parts so_far prefix =

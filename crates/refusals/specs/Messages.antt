@@ -86,11 +86,11 @@ expected_text DeleteName = codes "\"cascade\" or \"null\""
 expected_text DealName = codes "\"turn\" or \"drawn\""
 expected_text NoSuchKey = codes "no such key"
 
--- a key and what it wants, behind its place
+-- a key and what it wants, after its place
 abbrev pub wanted_text : SchemaKey → Expected → List ℕ
 wanted_text key expected = codes " key " ++ key_name key ++ codes ": expected " ++ expected_text expected
 
--- what is wrong at a key, behind its place
+-- what is wrong at a key, after its place
 abbrev pub key_text : SchemaKey → Expected → List ℕ
 key_text Other expected = codes ": no such key"
 key_text key expected = wanted_text key expected
@@ -111,7 +111,7 @@ schema_fault_text (schema.Shape place key expected) = shape_text place key expec
 schema_fault_text schema.Memory = codes "out of memory"
 schema_fault_text schema.ParseMemory = codes "out of memory"
 
--- what is wrong with a dictionary's bytes, behind its number
+-- what is wrong with a dictionary's bytes, after its number
 abbrev pub grammar_text : DictFault → List ℕ
 grammar_text (grammar.NotUtf8 at) = codes ": not UTF-8 at byte " ++ decimal at
 grammar_text (grammar.LongEntry line) = codes ": long entry at line " ++ decimal line

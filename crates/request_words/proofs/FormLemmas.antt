@@ -177,7 +177,7 @@ later_no_place zero few zero high low = absurd (omega arith)
 later_no_place zero few (suc place) high low = refl
 later_no_place (suc count) few place high low = absurd (omega arith)
 
--- an option whose value is due doesn't stand in the words behind
+-- an option whose value is due doesn't stand in the words after it
 abbrev IsOnce : Option Word → List Word → Type 0
 IsOnce None words = Unit {0}
 IsOnce (Some name) words = (is_option_word name ≡ true) × (list_any (stands_for name) words ≡ false)

@@ -7,7 +7,7 @@ use Rattle.request_words.specs.Options.{mode_named, request_of}
 use Rattle.request_words.specs.Words.{fault_of, request}
 use Rattle.request_words.specs.declared.usage.Mode.{Mode}
 
--- the words behind the first one
+-- the words after the first one
 pub behind_first : {X : Type 0} (f : X → List ℕ) (words : List X) → map f (take (length words - 1) (drop 1 words)) ≡ drop 1 (map f words)
 behind_first f [] = refl
 behind_first f (word ∷ words) = ap (map f) (take_all (length (word ∷ words) - 1) words (omega arith))

@@ -74,7 +74,7 @@ row_behind id change missing (row ∷ rows) e =
     let parts = or_parts (bytes_eq row.id id) (has_row id rows) e in
     rw parts.0 (ap (λ all. row ∷ all) (row_behind id change missing rows parts.1))
 
--- a first use puts a row behind the others
+-- a first use puts a row after the others
 used_first : (id : Word) (long : Option Word) (index : Option ℕ) (required : Bool) (value : Word) (rows : List Row) → has_row id rows ≡ false →
     used (built_rule id long index required) (value ∷ []) rows ≡ rows ++ row_of_entry (id, value) ∷ []
 used_first id long index required value rows new =
@@ -116,7 +116,7 @@ abbrev waiting_for : Option Word → Waiting
 waiting_for None = idle
 waiting_for (Some name) = option name
 
--- where the walk is, with an option's value due or none, and behind so many words that are no option's
+-- where the walk is, with an option's value due or none, and after so many words that are no option's
 abbrev pub at : Option Word → ℕ → Held → Walk
 at due count held = record {
   held = held;

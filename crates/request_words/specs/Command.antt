@@ -13,7 +13,7 @@ use Rattle.request_words.specs.declared.usage.OptionName.TheVariants as option
 abbrev pub option_rule : List ℕ → Rule
 option_rule word = record (new_rule word) { long = Some word }
 
--- a command with options of these names behind what it has
+-- a command with options of these names after what it has
 abbrev pub with_options : App → List (List ℕ) → App
 with_options command [] = command
 with_options command (word ∷ words) = with_options (with_rule command (option_rule word)) words
@@ -22,7 +22,7 @@ with_options command (word ∷ words) = with_options (with_rule command (option_
 abbrev pub mode_rule : Rule
 mode_rule = record (new_rule (codes "mode")) { required = true }
 
--- the schema's name, which may stand behind it
+-- the schema's name, which may stand after it
 abbrev pub schema_rule : Rule
 schema_rule = new_rule (word_of option.Schema)
 

@@ -1,4 +1,4 @@
--- The form of the words behind the program's name, and what each of them stands for.
+-- The form of the words after the program's name, and what each of them stands for.
 use Rattle.std.specs.Prelude.{ℕ, zero, suc, ◌+◌, Bool, false, true, not, ◌&&◌, ◌==◌, nat_lt, nat_le, List, [], ◌∷◌, length, find, map, Option, Some, None, codes, option_map, if◌then◌else◌}
 use Rattle.std.specs.Borrow.{Bor}
 use Rattle.std.specs.List.{list_any}
@@ -30,16 +30,16 @@ is_option_word name = is_one_of option_words name
 abbrev pub stands_for : List ℕ → List ℕ → Bool
 stands_for name word = option_map_or (λ (parts : List ℕ × Option (List ℕ)). bytes_eq parts.0 name) (long_of word) false
 
--- whether a value may stand behind `=`: it isn't empty, and doesn't begin with a hyphen
+-- whether a value may stand after `=`: it isn't empty, and doesn't begin with a hyphen
 abbrev pub can_follow : List ℕ → Bool
 can_follow value = not (length value == 0) && not (has_hyphen value)
 
--- whether words go on in the form behind an option, whose value follows as the next word where none stands behind `=`
+-- whether words go on in the form after an option, whose value follows as the next word where none stands after `=`
 abbrev pub value_goes_on : Option (List ℕ) → (Bool → Bool) → Bool
 value_goes_on None rest_goes_on = rest_goes_on true
 value_goes_on (Some value) rest_goes_on = can_follow value && rest_goes_on false
 
--- the same of an option's parts, its name and what stands behind `=`: it doesn't stand in the rest once more
+-- the same of an option's parts, its name and what stands after `=`: it doesn't stand in the rest once more
 abbrev pub option_goes_on : Option (List ℕ × Option (List ℕ)) → List (List ℕ) → (Bool → Bool) → Bool
 option_goes_on None rest rest_goes_on = false
 option_goes_on (Some parts) rest rest_goes_on =
@@ -54,7 +54,7 @@ goes_on (word ∷ rest) false count =
     if has_hyphen word then option_goes_on (long_of word) rest (λ due. goes_on rest due count)
     else (nat_lt count 2 && goes_on rest false (count + 1))
 
--- whether the words behind the program's name have the form
+-- whether the words after the program's name have the form
 abbrev pub has_form : List (List ℕ) → Bool
 has_form words = goes_on words false 0
 
@@ -69,7 +69,7 @@ abbrev pub place_word : ℕ → List ℕ
 place_word zero = codes "mode"
 place_word (suc count) = word_of option.Schema
 
--- an option and what stands behind `=`, then what the rest stands for, where the next word may be the option's value
+-- an option and what stands after `=`, then what the rest stands for, where the next word may be the option's value
 abbrev pub value_entries : List ℕ → Option (List ℕ) → (Option (List ℕ) → List Entry) → List Entry
 value_entries name None of_rest = of_rest (Some name)
 value_entries name (Some value) of_rest = (name, value) ∷ of_rest None
@@ -97,6 +97,6 @@ mode_in words = word_for (codes "mode") (entries words None 0)
 abbrev pub given_in : List (List ℕ) → Given
 given_in words = λ name. word_for (word_of name) (entries words None 0)
 
--- a name and what stands behind it, as the program refers to them
+-- a name and what stands after it, as the program refers to them
 abbrev pub option_parts : Bor (List ℕ) × Option (Bor (List ℕ)) → List ℕ × Option (List ℕ)
 option_parts parts = (parts.0.now, option_copied parts.1)

@@ -49,7 +49,7 @@ header_named word = if bytes_eq word (codes "none") then Some header.None else (
 
 -- ---- options and modes
 
--- an option's name, as it stands behind two hyphens, what its value has to be, and the number that stands where it isn't given
+-- an option's name, as it stands after two hyphens, what its value has to be, and the number that stands where it isn't given
 abbrev pub option_line : OptionName → List ℕ × Form × Option ℕ
 option_line option.Schema = (codes "schema", Text, None)
 option_line option.Unit = (codes "unit", Number, None)

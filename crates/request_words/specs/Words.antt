@@ -73,7 +73,7 @@ abbrev pub of_mode : Option Mode → Given → Result Request UsageFault
 of_mode None given = Err usage.Mode
 of_mode (Some mode) given = unless_fault (fault_of mode given) (request_of mode given)
 
--- the request of the words behind the program's name
+-- the request of the words after the program's name
 abbrev pub of_words : List (List ℕ) → Result Request UsageFault
 of_words words =
     if has_form words then of_mode (option_and_then mode_named (mode_in words)) (given_in words) else Err usage.Words

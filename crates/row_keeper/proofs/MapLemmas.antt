@@ -2,7 +2,7 @@
 use Rattle.std.proofs.Common.{◌≡◌, ℕ, Bool, true, false, Option, cond, refl, ap, option_map, ◌∙◌}
 use Rattle.std.specs.Prelude.{if◌then◌else◌}
 use Rattle.std.proofs.Math.Path.{fun_ext}
-use Rattle.row_keeper.specs.Kept.{KeptRow, KeptRows, with_row}
+use Rattle.row_keeper.specs.Kept.{with_row}
 use Rattle.row_keeper.specs.MapKeeper.{row_of, same_key}
 use Rattle.row_keeper.specs.declared.map_keeper.Kept.{Kept}
 

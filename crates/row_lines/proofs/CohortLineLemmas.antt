@@ -31,7 +31,7 @@ use Rattle.row_lines.specs.CohortLines.{AreLinesOf, LinesOf, asked_alone, asked_
 use Rattle.row_lines.specs.Lines.{line, line_of}
 use Rattle.row_lines.proofs.NullCostLemmas.{null_cost-fields}
 
--- what the field of a column takes at most in bytes, with the one behind
+-- what the field of a column takes at most in bytes, with the one after it
 abbrev pub room_in : LinesOf → ColumnLayout → ℕ
 room_in lines column = size_of (layout_of lines.plan).delimiter (layout_of lines.plan).tables (layout_for lines).columns column.kind + 1
 
@@ -242,7 +242,7 @@ unfolding line
 line_in_cohort-fields lines index count all =
     ap (λ (n : ℕ). join_with_byte (layout_of lines.plan).delimiter (map (text_in_cohort lines index) (range_with_len 0 n)) ++ codes "\n") all
 
--- an ordinal lies behind the first of its cohort by its index
+-- an ordinal lies after the first of its cohort by its index
 pub ordinal_of-index : (start first ordinal : ℕ) → first ≡ start → start ≤ ordinal → start + (ordinal - first) ≡ ordinal
 ordinal_of-index start first ordinal same begun = omega (arith, same, begun)
 

@@ -62,7 +62,7 @@ pub first_lines-all : (generator : Generator) (unit place born count : ℕ) → 
 unfolding cohort_text
 first_lines-all generator unit place born count all = ap (first_lines generator unit place born) all
 
--- what remains of the text of a cohort behind its first lines
+-- what remains of the text of a cohort after its first lines
 abbrev pub lines_after : Generator → ℕ → ℕ → ℕ → ℕ → List ℕ
 lines_after generator unit place born count =
     flat_map (line_of generator unit place)
@@ -96,7 +96,7 @@ cohort_text-over generator unit place born dead =
     ap (flat_map (line_of generator unit place))
     (filter-none (is_live generator place unit) (first_ordinal (table_at generator.tables place).births born) (cohort_size (table_at generator.tables place).births born) dead)
 
--- the cohorts behind one, up to a unit
+-- the cohorts after one, up to a unit
 abbrev pub cohorts_after : Generator → ℕ → ℕ → ℕ → List ℕ
 cohorts_after generator unit place born =
     flat_map (cohort_text generator unit place) (range_with_len (born + 1) (unit + 1 - (born + 1)))

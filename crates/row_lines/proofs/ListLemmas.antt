@@ -68,7 +68,7 @@ pub find-range_none : (p : ℕ → Bool) (a n : ℕ) → ((j : ℕ) → a ≤ j 
 find-range_none p a zero fails = refl
 find-range_none p a (suc n) fails = rw (fails a (omega arith) (omega arith)) (find-range_none p (a + 1) n (λ j low high. fails j (omega arith) (omega arith)))
 
--- a part has as many items as it was asked for, which stand in the list behind its start
+-- a part has as many items as it was asked for, which stand in the list after its start
 pub part_length : {A : Type 0} (start count : ℕ) (items : List A) → start + count ≤ length items → length (take (start + count - start) (drop start items)) ≡ count
 part_length start count items within = omega (arith, length-take (start + count - start) (drop start items), length-drop start items)
 

@@ -50,7 +50,7 @@ field_of_run lines of born index ordinal key changed column same row =
     ap (λ (l : LinesOf). text_in_cohort l index column) same
     ∙ ap (λ (o : ℕ). text_at lines o column) (sym (ap (λ (l : LinesOf). ordinal_of l index) same) ∙ row.ordinal_is)
 
--- with the byte behind it
+-- with the byte after it
 pub behind_of_run : (lines : RunLinesOf) (of : LinesOf) (born index ordinal key changed column : ℕ) → of ≡ of_unit lines born → IsRowOf of index ordinal key changed →
     text_in_cohort of index column ++ behind_of of.plan of.table column ∷ [] ≡ text_behind lines ordinal column
 behind_of_run lines of born index ordinal key changed column same row =

@@ -332,7 +332,7 @@ sum_by-same f g (suc k) same =
 
 -- ---- a line, field by field
 
--- there is room for the field behind those before
+-- there is room for the field after those before
 pub mixed-room : (lines : RunLinesOf) (ordinal column : ℕ) (old before : Page) → column < length (layout_for lines).columns →
     before ≡ record { text = old.text ++ flat_map (text_behind lines ordinal) (range_with_len 0 column); room = old.room } →
     ((k : ℕ) → k < column → length (text_at lines ordinal k) ≤ size_for lines k) → length old.text + max_line (layout_of lines.plan) lines.table ≤ old.room →

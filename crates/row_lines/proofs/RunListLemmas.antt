@@ -1,4 +1,4 @@
--- Lists by their indices, and fields with the byte behind.
+-- Lists by their indices, and fields with the byte after each.
 use Rattle.std.proofs.Common.{◌≡◌, ℕ, zero, suc, ◌+◌, ◌-◌, ◌*◌, ◌<◌, ◌≤◌, List, [], ◌∷◌, ◌++◌, map, length, get_or, codes, refl, ap, sym, arith, ◌∙◌, append_assoc, length-append}
 use Rattle.std.proofs.lemmas.Bool.Decides.{nat_tests}
 use Rattle.std.proofs.lemmas.List.{append-nil}
@@ -46,7 +46,7 @@ joined-front delimiter field f b n =
     let some : n + 1 ≡ suc n = omega arith in
     rw some refl
 
--- a byte behind each of some fields, and a line feed behind the last, is what joins them, and the line feed
+-- a byte after each of some fields, and a line feed after the last, is what joins them, and the line feed
 joined-behind : (delimiter : ℕ) (f : ℕ → List ℕ) (a n : ℕ) →
     join_with_byte delimiter (map f (range_with_len a (n + 1))) ++ 10 ∷ []
     ≡ flat_map (λ column. f column ++ behind delimiter (a + (n + 1)) column ∷ []) (range_with_len a (n + 1))

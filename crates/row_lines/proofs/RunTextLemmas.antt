@@ -1,4 +1,4 @@
--- The texts of runs: one behind the other, and of all rows; and the line of a row, field by field.
+-- The texts of runs: one after the other, and of all rows; and the line of a row, field by field.
 use Rattle.std.proofs.Common.{◌≡◌, ◌<◌, ◌≤◌, ℕ, zero, suc, ◌+◌, ◌*◌, Bool, List, [], ◌∷◌, ◌++◌, filter, flat_map, get_or, length, length-append, take, drop, append-nil, append_assoc, refl, ap, sym, arith, ◌∙◌}
 use Rattle.std.specs.List.{range_with_len}
 use Rattle.std.proofs.Math.Nat.{mul-le-mul_right}
@@ -54,7 +54,7 @@ pub cohort_text-run : (lines : RunLinesOf) (born : ℕ) →
 unfolding cohort_text first_lines
 cohort_text-run lines born = refl
 
--- two lists, one behind the other
+-- two lists, one after the other
 pub listed_text-append : (lines : RunLinesOf) (ordinals others : List ℕ) → listed_text lines (ordinals ++ others) ≡ listed_text lines ordinals ++ listed_text lines others
 listed_text-append lines ordinals others = flat_map-append (line_of (generator_of lines.plan) lines.unit lines.table) ordinals others
 

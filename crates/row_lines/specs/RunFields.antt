@@ -55,7 +55,7 @@ abbrev pub asked_long : RunLinesOf → ℕ → ℕ
 asked_long lines column = if is_short_at lines.plan lines.table column then 0 else asked_for lines column
 
 -- the fields of the rows of some ordinals in the column at a place are made: from a place of the pieces on each stands as it is written,
--- with the byte behind it, and none is longer than the column's may be
+-- with the byte after it, and none is longer than the column's may be
 pub record AreMade (lines : RunLinesOf) (ordinals : List ℕ) (pieces : List Piece) (start column : ℕ) : Type 0 where
   pub text : (i : ℕ) → i < length ordinals → piece_text_at pieces (start + i) ≡ text_behind lines (get_or ordinals i 0) column
   pub size : (i : ℕ) → i < length ordinals → length (text_at lines (get_or ordinals i 0) column) ≤ size_for lines column

@@ -40,7 +40,7 @@ run_text lines first count = listed_text lines (living_from lines first count)
 abbrev pub keys_text : Project → ℕ → List ℕ → List ℕ
 keys_text plan table ordinals = flat_map (key_line_of (generator_of plan) (last_unit plan) table) ordinals
 
--- the byte behind the field of the column at a place, of so many: the delimiter, and the line feed behind the last
+-- the byte after the field of the column at a place, of so many: the delimiter, and the line feed after the last
 abbrev pub behind : ℕ → ℕ → ℕ → ℕ
 behind delimiter count column = if column + 1 == count then 10 else delimiter
 
@@ -50,7 +50,7 @@ text_at lines ordinal column =
     field_text (layout_of lines.plan).delimiter
     (field (generator_of lines.plan) lines.unit lines.table (row_at (generator_of lines.plan) lines.table lines.unit ordinal) column)
 
--- that, with the byte behind it
+-- that, with the byte after it
 abbrev pub text_behind : RunLinesOf → ℕ → ℕ → List ℕ
 text_behind lines ordinal column =
     text_at lines ordinal column ++ behind (layout_of lines.plan).delimiter (length (layout_for lines).columns) column ∷ []

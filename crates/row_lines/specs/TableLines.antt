@@ -12,7 +12,7 @@ use Rattle.draw_values.specs.Runs.{RunColumnOf, is_short_number, run_column}
 use Rattle.life_intervals.specs.Generator.{rows_in_all, table_of}
 use Rattle.row_lines.specs.Runs.{behind}
 
--- the byte behind the field of the column at a place of the table at a place
+-- the byte after the field of the column at a place of the table at a place
 abbrev pub behind_of : Project → ℕ → ℕ → ℕ
 behind_of plan table column = behind (layout_of plan).delimiter (length (table_of plan table).columns) column
 
@@ -24,7 +24,7 @@ has_short_keys plan table = nat_le ((table_of plan table).key.base + rows_in_all
 abbrev pub column_of : Project → ℕ → ℕ → RunColumnOf
 column_of plan table column = run_column plan table column (behind_of plan table column)
 
--- of what a lookup shows, the column of the parent's table, prepared for runs with a byte behind its fields; None of any other kind
+-- of what a lookup shows, the column of the parent's table, prepared for runs with a byte after its fields; None of any other kind
 abbrev pub shown_by : Project → ℕ → ReadyKind → Option RunColumnOf
 shown_by plan behind (kind.Lookup lookup) = Some (run_column plan lookup.parent lookup.column behind)
 shown_by plan behind _ = None

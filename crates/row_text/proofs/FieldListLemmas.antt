@@ -1,4 +1,4 @@
--- Fields one behind the other in one buffer.
+-- Fields one after the other in one buffer.
 use Rattle.std.proofs.Common.{◌≡◌, ℕ, ◌+◌, ◌-◌, ◌≤◌, List, [], ◌∷◌, ◌++◌, length, take, drop, Option, Some, None, All, refl, ap, sym, ◌∙◌, arith, length-append, length-drop}
 use Rattle.std.specs.List.{slice_range}
 use Rattle.std.proofs.lemmas.List.{drop-append-le, take-append-le, drop_at, take_all, map_push}
@@ -6,7 +6,7 @@ use Rattle.std.proofs.lemmas.List.Elements.{All-head, All-tail, All-weaker}
 use Rattle.row_text.specs.FieldList.{field_in, fields_in, IsSpanWithin}
 use Rattle.row_text.specs.declared.field_list.Span.{Span}
 
--- more bytes behind a buffer leave its fields
+-- more bytes after a buffer leave its fields
 field_in-append : (bytes more : List ℕ) (span : Option Span) → IsSpanWithin bytes span → field_in (bytes ++ more) span ≡ field_in bytes span
 field_in-append bytes more None within = refl
 field_in-append bytes more (Some span) within =
@@ -28,7 +28,7 @@ IsSpanWithin-append bytes more (Some span) within = (within.0, omega (arith, len
 pub All-IsSpanWithin-append : (bytes more : List ℕ) (spans : List (Option Span)) → All (IsSpanWithin bytes) spans → All (IsSpanWithin (bytes ++ more)) spans
 All-IsSpanWithin-append bytes more spans within = All-weaker (IsSpanWithin bytes) (IsSpanWithin (bytes ++ more)) (IsSpanWithin-append bytes more) spans within
 
--- a text behind the others
+-- a text after the others
 pub fields_in-push : (bytes text : List ℕ) (spans : List (Option Span)) (start end : ℕ) → All (IsSpanWithin bytes) spans → start ≡ length bytes → end ≡ length bytes + length text → fields_in (bytes ++ text) (spans ++ Some (record { start = start; end = end }) ∷ []) ≡ fields_in bytes spans ++ Some text ∷ []
 fields_in-push bytes text spans start end within start_is end_is =
     let all : length text ≤ end - start = omega arith in

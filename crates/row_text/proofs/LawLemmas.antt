@@ -113,7 +113,7 @@ pub ends-apart : (delimiter end : ℕ) → IsDelimiter delimiter → EndsField d
 ends-apart delimiter end delimits (inl is) = subst (λ (e : ℕ). IsEnd delimiter e) (sym is) (delimiter_ends delimiter delimits)
 ends-apart delimiter end delimits (inr is) = subst (λ (e : ℕ). IsEnd delimiter e) (sym is) (line_feed_ends delimiter)
 
--- two texts, each with a byte that ends the field behind
+-- two texts, each with a byte after it that ends the field
 texts-same : (delimiter end other_end : ℕ) → IsEnd delimiter end → IsEnd delimiter other_end → (xs ys rest other_rest : List ℕ) → escaped_text delimiter xs ++ end ∷ rest ≡ escaped_text delimiter ys ++ other_end ∷ other_rest → (xs ≡ ys) × (end ≡ other_end) × (rest ≡ other_rest)
 texts-same delimiter end other_end ends other_ends [] [] rest other_rest same = (refl, cc, cc)
 texts-same delimiter end other_end ends other_ends [] (y ∷ ys) rest other_rest same =
@@ -132,7 +132,7 @@ texts-same delimiter end other_end ends other_ends (x ∷ xs) (y ∷ ys) rest ot
     let bytes : x ∷ xs ≡ y ∷ ys = cc in
     (bytes, later.1, later.2)
 
--- a null field and a text, each with a byte that ends the field behind
+-- a null field and a text, each with a byte after it that ends the field
 pub null-apart : (delimiter end : ℕ) → IsEnd delimiter end → (bytes rest other_rest : List ℕ) → escaped_text delimiter bytes ++ end ∷ rest ≢ 92 ∷ 78 ∷ other_rest
 null-apart delimiter end ends [] rest other_rest same =
     let is : end ≡ 92 = cc in
@@ -152,7 +152,7 @@ null-apart delimiter end ends (x ∷ xs) rest other_rest same =
           no_n is
     ]
 
--- the same of texts with nothing behind
+-- the same of texts with nothing after them
 pub escaped_text-same : (delimiter : ℕ) (xs ys : List ℕ) → escaped_text delimiter xs ≡ escaped_text delimiter ys → xs ≡ ys
 escaped_text-same delimiter xs ys same =
     (texts-same delimiter 10 10 (line_feed_ends delimiter) (line_feed_ends delimiter) xs ys [] [] (ap (λ (t : List ℕ). t ++ 10 ∷ []) same)).0
@@ -161,7 +161,7 @@ pub escaped_text-null : (delimiter : ℕ) (bytes : List ℕ) → escaped_text de
 escaped_text-null delimiter bytes same =
     null-apart delimiter 10 (line_feed_ends delimiter) bytes [] (10 ∷ []) (ap (λ (t : List ℕ). t ++ 10 ∷ []) same)
 
--- two fields, each with a byte that ends the field behind
+-- two fields, each with a byte after it that ends it
 fields-same : (delimiter end other_end : ℕ) → IsEnd delimiter end → IsEnd delimiter other_end → (field other : Option (List ℕ)) (rest other_rest : List ℕ) → field_text delimiter field ++ end ∷ rest ≡ field_text delimiter other ++ other_end ∷ other_rest → (field ≡ other) × (end ≡ other_end) × (rest ≡ other_rest)
 fields-same delimiter end other_end ends other_ends None None rest other_rest same = (refl, cc, cc)
 fields-same delimiter end other_end ends other_ends None (Some ys) rest other_rest same =

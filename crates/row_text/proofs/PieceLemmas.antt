@@ -14,7 +14,7 @@ flat_map-take_more f bytes i below =
     ∙ flat_map-append f (take i bytes) (get_or bytes i 0 ∷ [])
     ∙ ap (λ (piece : List ℕ). flat_map f (take i bytes) ++ piece) (append-nil (f (get_or bytes i 0)))
 
--- a byte with an escape: behind the run and the escape no run is left
+-- a byte with an escape: after the run and the escape no run is left
 pub escape_written : (f : ℕ → List ℕ) (bytes : List ℕ) (start i : ℕ) (old text now escape : List ℕ) → i < length bytes → text ++ slice_range bytes start i ≡ old ++ flat_map f (take i bytes) → f (get_or bytes i 0) ≡ escape → now ≡ (text ++ slice_range bytes start i) ++ escape → now ++ slice_range bytes (i + 1) (i + 1) ≡ old ++ flat_map f (take (i + 1) bytes)
 escape_written f bytes start i old text now escape below so_far written now_is =
     ap (λ (run : List ℕ). now ++ run) (between_none bytes (i + 1))
@@ -35,7 +35,7 @@ run_longer f bytes start i old text order below so_far written =
     ∙ ap (λ (piece : List ℕ). old ++ (flat_map f (take i bytes) ++ piece)) (sym written)
     ∙ ap (λ (all : List ℕ). old ++ all) (sym (flat_map-take_more f bytes i below))
 
--- the run before a byte fits, with what is written for the byte behind it
+-- the run before a byte fits, with what is written for the byte after it
 pub run_fits : (f : ℕ → List ℕ) (bytes : List ℕ) (start i room : ℕ) (old text : List ℕ) → i < length bytes → text ++ slice_range bytes start i ≡ old ++ flat_map f (take i bytes) → length old + length (flat_map f bytes) ≤ room → length text + length (slice_range bytes start i) + length (f (get_or bytes i 0)) ≤ room
 run_fits f bytes start i room old text below so_far fits =
     omega (

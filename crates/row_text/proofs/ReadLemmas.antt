@@ -44,7 +44,7 @@ one delimiter field = ap (λ (t : List ℕ). t ++ 10 ∷ []) (append-nil (field_
 several : (delimiter : ℕ) (field next : Option (List ℕ)) (more : List (Option (List ℕ))) → line_text delimiter (field ∷ next ∷ more) ++ 10 ∷ [] ≡ field_text delimiter field ++ delimiter ∷ (line_text delimiter (next ∷ more) ++ 10 ∷ [])
 several delimiter field next more = append_assoc (field_text delimiter field) (delimiter ∷ line_text delimiter (next ∷ more)) (10 ∷ [])
 
--- a line body with its line feed: its first field, the byte that ends it, and what is behind
+-- a line body with its line feed: its first field, the byte that ends it, and what is after that
 record Opens (delimiter : ℕ) (field : Option (List ℕ)) (fields : List (Option (List ℕ))) : Type 0 where
   end : ℕ
   rest : List ℕ
@@ -95,7 +95,7 @@ IsLineBody-same delimiter delimits (field ∷ fields) [] bytes body other_body =
 IsLineBody-same delimiter delimits (field ∷ fields) (other ∷ others) bytes body other_body =
     line_text-same delimiter delimits field other fields others (ap (λ (t : List ℕ). t ++ 10 ∷ []) (sym body.written ∙ other_body.written))
 
--- fields that are read whole, and what is read behind them
+-- fields that are read whole, and what is read after them
 fields_before-cons : (delimiter : ℕ) (field : Option (List ℕ)) (fields : List (Option (List ℕ))) (xs : List ℕ) → fields_before delimiter (field ∷ fields) ++ xs ≡ field_text delimiter field ++ delimiter ∷ (fields_before delimiter fields ++ xs)
 fields_before-cons delimiter field fields xs =
     append_assoc (field_text delimiter field ++ delimiter ∷ []) (fields_before delimiter fields) xs
@@ -120,7 +120,7 @@ fields_before-push delimiter fields field =
     ∙ ap (λ (t : List ℕ). fields_before delimiter fields ++ t) (append-nil (field_text delimiter field ++ delimiter ∷ []))
     ∙ sym (append_assoc (fields_before delimiter fields) (field_text delimiter field) (delimiter ∷ []))
 
--- what is behind them in a line is a line
+-- what is after them in a line is a line
 cut : (delimiter : ℕ) → IsDelimiter delimiter → (before : List (Option (List ℕ))) (xs : List ℕ) (field : Option (List ℕ)) (fields : List (Option (List ℕ))) → fields_before delimiter before ++ xs ≡ line_text delimiter (field ∷ fields) ++ 10 ∷ [] → (other : Option (List ℕ)) × (others : List (Option (List ℕ))) × (xs ≡ line_text delimiter (other ∷ others) ++ 10 ∷ [])
 cut delimiter delimits [] xs field fields is = (field, fields, is)
 cut delimiter delimits (first ∷ before) xs field [] is =
@@ -132,7 +132,7 @@ cut delimiter delimits (first ∷ before) xs field (next ∷ more) is =
     (sym (fields_before-cons delimiter first before xs) ∙ is ∙ several delimiter field next more) in
     cut delimiter delimits before xs next more both.2
 
--- behind a text, a field goes on: with the null field if the text is empty, or with a text
+-- after a text, a field goes on: with the null field if the text is empty, or with a text
 behind_text : (delimiter end : ℕ) → IsEnd delimiter end → (text xs rest : List ℕ) (field : Option (List ℕ)) → escaped_text delimiter text ++ xs ≡ field_text delimiter field ++ end ∷ rest → ((text ≡ []) × (xs ≡ 92 ∷ 78 ∷ end ∷ rest)) ⊎ ((more : List ℕ) × (xs ≡ escaped_text delimiter more ++ end ∷ rest))
 behind_text delimiter end ends [] xs rest None is = inl (refl, is)
 behind_text delimiter end ends (x ∷ text) xs rest None is =
@@ -173,7 +173,7 @@ begins_none delimiter byte letter special no_backslash x xs rest is =
           no_backslash same
     ]
 
--- a byte behind which the line goes on, and that isn't the delimiter, doesn't end a field
+-- a byte after which the line goes on, and that isn't the delimiter, doesn't end a field
 ends_none : (delimiter byte end : ℕ) (more rest : List ℕ) → EndsField delimiter end → (end ≡ 10 → rest ≡ []) → byte ≢ delimiter → byte ∷ (more ++ 10 ∷ []) ≢ end ∷ rest
 ends_none delimiter byte end more rest (inl is) last other same =
     let heads : byte ≡ end = cc in
@@ -208,7 +208,7 @@ letter_none delimiter letter end ends none more rest (y ∷ ys) is =
           none y (written ∙ ap (λ (l : ℕ). 92 ∷ l ∷ []) same)
     ]
 
--- behind fields that are read whole
+-- after fields that are read whole
 abbrev GoesOn : ℕ → List (Option (List ℕ)) → List ℕ → Type 0
 GoesOn delimiter before xs = (field : Option (List ℕ)) × (fields : List (Option (List ℕ))) × (fields_before delimiter before ++ xs ≡ line_text delimiter (field ∷ fields) ++ 10 ∷ [])
 

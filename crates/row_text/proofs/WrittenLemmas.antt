@@ -1,4 +1,4 @@
--- Texts one behind the other in one buffer.
+-- Texts one after the other in one buffer.
 use Rattle.std.proofs.Common.{◌≡◌, ℕ, zero, suc, ◌+◌, ◌-◌, ◌<◌, ◌≤◌, List, [], ◌∷◌, ◌++◌, length, map, get_or, take, drop, slice_get, Some, refl, sym, ap, ◌∙◌, arith, inl, inr}
 use Rattle.std.specs.List.{range_with_len, slice_range}
 use Rattle.std.proofs.lemmas.Bool.{cases_lt}
@@ -31,14 +31,14 @@ start_of-push : (ends : List ℕ) (end i : ℕ) → i ≤ length ends → start_
 start_of-push ends end zero within = refl
 start_of-push ends end (suc i) within = get_or_append_left ends (end ∷ []) 0 i (omega arith)
 
--- a part of some bytes is that part of the bytes with more behind
+-- a part of some bytes is that part of the bytes with more after them
 slice_range-append : (bytes more : List ℕ) (start end : ℕ) → start ≤ end → end ≤ length bytes → slice_range (bytes ++ more) start end ≡ slice_range bytes start end
 slice_range-append bytes more start end order within =
     let before : start ≤ length bytes = omega arith in
     let left : end - start ≤ length (drop start bytes) = omega (arith, length-drop start bytes) in
     ap (take (end - start)) (drop-append-le start bytes more before) ∙ take-append-le (end - start) (drop start bytes) more left
 
--- the part behind some bytes
+-- the part after some bytes
 slice_range-behind : (bytes more : List ℕ) (end : ℕ) → end ≡ length bytes + length more → slice_range (bytes ++ more) (length bytes) end ≡ more
 slice_range-behind bytes more end is =
     let all : length more ≤ end - length bytes = omega arith in

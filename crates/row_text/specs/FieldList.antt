@@ -1,4 +1,4 @@
--- Fields one behind the other in one buffer.
+-- Fields one after the other in one buffer.
 use Rattle.std.specs.Prelude.{ℕ, ◌≤◌, List, length, map, Option, Some, None}
 use Rattle.std.specs.List.{slice_range}
 use Rattle.row_text.specs.declared.field_list.Span.{Span}

@@ -5,7 +5,7 @@ use Rattle.std.specs.Prelude.{◌≡◌, ◌⊎◌, ℕ, ◌==◌, ◌&&◌, if�
 abbrev pub IsDelimiter : ℕ → Type 0
 IsDelimiter delimiter = (delimiter ≡ 9) ⊎ (delimiter ≡ 124)
 
--- a byte that may stand behind a field: the delimiter, or the line feed that ends the line
+-- a byte that may stand after a field: the delimiter, or the line feed that ends the line
 abbrev pub EndsField : ℕ → ℕ → Type 0
 EndsField delimiter byte = (byte ≡ delimiter) ⊎ (byte ≡ 10)
 

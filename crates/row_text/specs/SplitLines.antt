@@ -8,11 +8,11 @@ use Rattle.row_text.specs.declared.split_lines.Place.{Place}
 use Rattle.row_text.specs.declared.split_lines.Place.TheVariants.{Text, Backslash, Null}
 use Rattle.row_text.specs.declared.split_lines.Reader.{Reader}
 
--- fields that are read whole, each with the delimiter behind it
+-- fields that are read whole, each with the delimiter after it
 abbrev pub fields_before : ℕ → List (Option (List ℕ)) → List ℕ
 fields_before delimiter fields = flat_map (λ field. field_text delimiter field ++ delimiter ∷ []) fields
 
--- what is read of the field behind them
+-- what is read of the field after them
 abbrev pub field_so_far : ℕ → List ℕ → Place → List ℕ
 field_so_far delimiter text Text = escaped_text delimiter text
 field_so_far delimiter text Backslash = escaped_text delimiter text ++ 92 ∷ []

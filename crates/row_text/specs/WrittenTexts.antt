@@ -1,4 +1,4 @@
--- Texts one behind the other in one buffer, with the place where each ends.
+-- Texts one after the other in one buffer, with the place where each ends.
 use Rattle.std.specs.Prelude.{◌≡◌, ℕ, zero, suc, ◌<◌, ◌≤◌, List, length, map, slice_index}
 use Rattle.std.specs.List.{range_with_len, slice_range}
 
@@ -15,7 +15,7 @@ written_text_at bytes ends i = slice_range bytes (start_of ends i) (slice_index 
 unfoldable pub texts_in : List ℕ → List ℕ → List (List ℕ)
 texts_in bytes ends = map (written_text_at bytes ends) (range_with_len 0 (length ends))
 
--- no text ends before it begins or behind the buffer, and the last one ends where the buffer does
+-- no text ends before it begins or after the buffer, and the last one ends where the buffer does
 pub record AreEnds (bytes ends : List ℕ) : Type 0 where
   pub order : (i : ℕ) → i < length ends → start_of ends i ≤ slice_index ends i
   pub within : (i : ℕ) → i < length ends → slice_index ends i ≤ length bytes

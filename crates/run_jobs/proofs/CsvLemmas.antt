@@ -184,7 +184,7 @@ one_bad asked delimiter (input ∷ inputs) (suc number) (suc other) at other_at 
     let rest = one_bad asked delimiter inputs number other at other_at bad.1 other_bad.1 in
     (ap suc rest.0, rest.1)
 
--- an input behind those that are read has the first bad record
+-- an input after those that are read has the first bad record
 pub bad_behind : (asked : Header) (delimiter : ℕ) (columns : List (List (List ℕ))) (inputs copies : List (List ℕ)) (number at : ℕ) → length columns ≡ length inputs → number < length inputs →
     AreReadAs asked delimiter (take number (zip columns inputs)) copies → HasBadIn asked (get_or columns number []) (get_or inputs number []) at →
     HasBadAt asked delimiter (zip columns inputs) number at

@@ -57,7 +57,7 @@ seed-kept size = by_sites size SeedAndUnits keeps
     keeps (OfTable table) is_site = refl
     keeps (OfColumn table column) is_site = refl
 
--- a number of rows at unit 0, and one at each of four units behind it
+-- a number of rows at unit 0, and one at each of four units after it
 counted : (name : List ℕ) (rows insert : ℕ) (life : Option Life) (update : Option ℤ) (columns : List Column) → rows + 4 * insert ≤ 2 ^ 40 →
     is_row_count (pos 4) (record { name = name; rows = pos rows; insert = at_each_unit insert; life = life; update = update; columns = columns }) ≡ true
 counted name rows insert life update columns few =

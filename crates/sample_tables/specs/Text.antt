@@ -9,7 +9,7 @@ number_line key number = key ++ codes " = " ++ decimal number ++ codes "\n"
 abbrev pub text_line : List ℕ → List ℕ → List ℕ
 text_line key text = key ++ codes " = \"" ++ text ++ codes "\"\n"
 
--- how a table begins, behind an empty line
+-- how a table begins, after an empty line
 abbrev pub table_head : List ℕ → ℕ → ℕ → List ℕ
 table_head name rows insert =
     codes "\n[[table]]\n" ++ text_line (codes "name") name ++ number_line (codes "rows") rows ++ number_line (codes "insert") insert

@@ -5,7 +5,7 @@ use Rattle.std.specs.Option.{option_or}
 use Rattle.std.proofs.Math.Seq.{drop-cons}
 use Rattle.schema_plan.specs.Rules.{first_found}
 
--- one place further: what is found at the place itself, or else behind it
+-- one place further: what is found at the place itself, or else after it
 pub first_found-range : {B : Type 0} (look : ℕ → Option B) (i n : ℕ) → i < n → first_found look (range_with_len i (n - i)) ≡ option_or (look i) (first_found look (range_with_len (i + 1) (n - (i + 1))))
 first_found-range look i n h =
     let e : n - i ≡ suc (n - (i + 1)) = omega arith in

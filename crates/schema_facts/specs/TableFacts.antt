@@ -7,7 +7,7 @@ use Rattle.schema_facts.specs.FieldSizes.{field_sizes, greatest_by}
 use Rattle.schema_facts.specs.declared.column_facts.ColumnFacts.{ColumnFacts}
 use Rattle.schema_facts.specs.declared.facts.TableFacts.{TableFacts}
 
--- the greatest size of a line, by those of its fields: a delimiter or the line feed stands behind each
+-- the greatest size of a line, by those of its fields: a delimiter or the line feed stands after each
 abbrev pub line_size : List ℕ → ℕ
 line_size sizes = sum_by (λ size. size + 1) sizes
 

@@ -1,4 +1,4 @@
--- A table beside a schema: it stands behind the schema's tables and may refer to them. Its dictionaries are handed in with it.
+-- A table beside a schema: it stands after the schema's tables and may refer to them. Its dictionaries are handed in with it.
 use Rattle.std.specs.Prelude.{ℕ, List, map}
 use Rattle.schema_model.specs.declared.column.Column.{Column}
 use Rattle.schema_model.specs.declared.table.Table.{Table}

@@ -1,4 +1,4 @@
-//! A table beside a schema: it stands behind the schema's tables and may refer to them. Its dictionaries are handed in with it.
+//! A table beside a schema: it stands after the schema's tables and may refer to them. Its dictionaries are handed in with it.
 
 ghost use Rattle.std.specs.Prelude.{◌≡◌, All, IfOk};
 ghost use Rattle.schema_plan.specs.Beside.{facts_beside, line_beside, ready_beside};

@@ -37,7 +37,7 @@ module _ (lines : RunLinesOf) (ordinal : ℕ) (delimits : IsDelimiter (layout_of
   abbrev made_of : (ℕ → FramedColumn) → ℕ → List ℕ
   made_of column_of column = (column_of column).before ++ literal (column_of column).bare (field_of column)
 
-  -- the byte behind a column's field ends it
+  -- the byte after a column's field ends it
   ends : (column : ℕ) → EndsField (layout_of lines.plan).delimiter (behind (layout_of lines.plan).delimiter (length (layout_for lines).columns) column)
   ends column = elim (cases_eq (column + 1) count) [
     | inl last ↦ subst (EndsField delimiter) (sym (ap (λ (test : Bool). if test then 10 else delimiter) (eq-eqb (column + 1) count last))) (inr refl)

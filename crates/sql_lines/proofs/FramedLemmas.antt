@@ -16,7 +16,7 @@ field-here stop lines at end is =
     let size : end - at ≡ length (field_before stop (drop at lines)) = omega (arith, is) in
     ap (λ (n : ℕ). take n (drop at lines)) size ∙ field-part false stop (drop at lines)
 
--- behind its end and the byte there the next begins
+-- after its end and the byte there the next begins
 pub behind-here : (stop : ℕ) (lines : List ℕ) (at end next : ℕ) → at ≤ length lines → end ≡ at + length (field_before stop (drop at lines)) → end ≤ length lines →
     next ≡ min (length lines) (end + 1) → drop next lines ≡ field_behind stop (drop at lines)
 behind-here stop lines at end next begins is within next_is =
@@ -31,7 +31,7 @@ behind-here stop lines at end next begins is within next_is =
 
 -- ---- the fields of a frame
 
--- the byte behind a field, with columns behind it or none
+-- the byte after a field, with columns after it or none
 pub stop-last : (delimiter : ℕ) (columns : List FramedColumn) (number : ℕ) → number + 1 ≡ length columns → stop_before delimiter (drop (number + 1) columns) ≡ 10
 stop-last delimiter columns number last = ap (stop_before delimiter) (drop_all (number + 1) columns (omega (arith, last)))
 
@@ -44,7 +44,7 @@ stop-other delimiter columns number blank below other =
     ] in
     ap (stop_before delimiter) (drop-cons columns (number + 1) blank inside)
 
--- the column of a number, and those behind it
+-- the column of a number, and those after it
 module _ (delimiter : ℕ) (columns : List FramedColumn) (number : ℕ) (column : FramedColumn) (stop : ℕ) (below : number < length columns)
     (column_is : column ≡ get_or columns number column) (stop_is : stop ≡ stop_before delimiter (drop (number + 1) columns)) where
   one_more : drop number columns ≡ column ∷ drop (number + 1) columns

@@ -31,7 +31,7 @@ some-behind : (text : List ℕ) (rest : List ℕ) → text ++ 39 ∷ rest ≡ []
 some-behind [] rest same = cc
 some-behind (byte ∷ text) rest same = cc
 
--- the quote behind a text is no byte of it
+-- the quote after a text is no byte of it
 quoted-none : (byte : ℕ) (other : List ℕ) → 39 ∷ [] ≡ flat_map quoted (byte ∷ other) ++ 39 ∷ [] → ⊥
 quoted-none byte other same = elim (cases_eq byte 39) [
   | inl quote ↦

@@ -45,7 +45,7 @@ field-here slash stop lines i below ends =
 pub field-last : (slash : Bool) (stop : ℕ) (lines : List ℕ) (i : ℕ) → length lines ≤ i → length (field_from slash stop (drop i lines)) ≡ 0
 field-last slash stop lines i past = ap (λ (bytes : List ℕ). length (field_from slash stop bytes)) (drop_all i lines past)
 
--- the field as a part of the lines, and what is behind it
+-- the field as a part of the lines, and what is after it
 pub field-part : (slash : Bool) (stop : ℕ) (bytes : List ℕ) → take (length (field_from slash stop bytes)) bytes ≡ field_from slash stop bytes
 field-part slash stop [] = refl
 field-part slash stop (byte ∷ bytes) = elim (cases_Bool (byte == stop && not slash)) [
@@ -138,7 +138,7 @@ module _ (delimiter stop : ℕ) (delimits : IsDelimiter delimiter) (ends : EndsF
             ap (λ (bytes : List ℕ). behind_from false stop (bytes ++ rest)) written ∙ passed_behind letter rest ∙ text-behind text more
       ]
 
-  -- a field with a byte behind it that ends it
+  -- a field with a byte after it that ends it
   pub field-whole : (field : Option (List ℕ)) (more : List ℕ) → field_before stop (field_text delimiter field ++ stop ∷ more) ≡ field_text delimiter field
   field-whole None more = passed 78 (stop ∷ more) ∙ ap (λ (bytes : List ℕ). 92 ∷ 78 ∷ bytes) (text-whole [] more)
   field-whole (Some text) more = text-whole text more

@@ -38,7 +38,7 @@ use Rattle.sql_lines.proofs.ToldLemmas.{told-born}
 
 -- ---- one line
 
--- of the line of a row its statement is made, and what is behind the line is left
+-- of the line of a row its statement is made, and what is after the line is left
 pub record CanState (lines : RunLinesOf) (verb : Verb) (ordinal : ℕ) : Type 0 where
   pub makes : (rest : List ℕ) → statement_from verb (layout_of lines.plan).delimiter (frame_for lines verb) (line_for lines ordinal ++ rest) ≡ statement_for lines verb ordinal
   pub leaves : (rest : List ℕ) → rest_from verb (layout_of lines.plan).delimiter (frame_for lines verb) (line_for lines ordinal ++ rest) ≡ rest
@@ -97,7 +97,7 @@ line-some lines ordinal =
     let fields : List (List ℕ) = field_texts (generator_of lines.plan) lines.unit lines.table row in
     omega (arith, length-append (join_with_byte (generator_of lines.plan).delimiter fields) (codes "\n"))
 
--- so many of the rows have their statements, and bytes behind an index are the lines of the others
+-- so many of the rows have their statements, and bytes after an index are the lines of the others
 pub record Stands (lines : RunLinesOf) (verb : Verb) (ordinals bytes : List ℕ) (at : ℕ) (old page : Page) : Type 0 where
   pub row : ℕ
   pub rows : row ≤ length ordinals
@@ -177,7 +177,7 @@ module _ (lines : RunLinesOf) (verb : Verb) (ordinals bytes : List ℕ) (at : �
         );
       }
 
-  -- behind their end there is none
+  -- after their end there is none
   all : length bytes ≤ at → length ordinals ≤ stands.row
   all past = elim (cases_lt stands.row (length ordinals)) [
     | inr done ↦ done

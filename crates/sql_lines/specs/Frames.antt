@@ -11,14 +11,14 @@ pub record FramedColumn : Type 0 where
   pub before : List ℕ
   pub bare : Bool
 
--- of a statement: its columns, and what stands behind the last
+-- of a statement: its columns, and what stands after the last
 pub record FrameOf : Type 0 where
   pub columns : List FramedColumn
   pub end : List ℕ
 
 -- ---- the frames of a table
 
--- what stands before a column's literal in an insertion: behind the first there is a comma
+-- what stands before a column's literal in an insertion: after the first there is a comma
 abbrev pub insertion_lead : Project → ℕ → ℕ → List ℕ
 insertion_lead plan place column =
     if column == 0 then codes "INSERT INTO " ++ table_name plan place ++ codes " VALUES (" else codes ", "
@@ -51,16 +51,16 @@ deletion_frame plan place = record { columns = []; end = codes "DELETE FROM " ++
 
 -- ---- what is made of a line
 
--- the byte behind the field of a column, with columns behind it or none
+-- the byte after the field of a column, with columns after it or none
 abbrev pub stop_before : ℕ → List FramedColumn → ℕ
 stop_before delimiter [] = 10
 stop_before delimiter (column ∷ columns) = delimiter
 
--- the literal of the field that bytes begin with, behind what stands before it
+-- the literal of the field that bytes begin with, after what stands before it
 abbrev pub field_framed : FramedColumn → ℕ → List ℕ → List ℕ
 field_framed column stop bytes = column.before ++ literal column.bare (field_read (field_before stop bytes))
 
--- those of all fields, and the bytes behind these fields
+-- those of all fields, and the bytes after these fields
 abbrev pub framed : ℕ → List FramedColumn → List ℕ → List ℕ
 framed delimiter [] bytes = []
 framed delimiter (column ∷ columns) bytes =
@@ -70,7 +70,7 @@ abbrev pub behind_framed : ℕ → List FramedColumn → List ℕ → List ℕ
 behind_framed delimiter [] bytes = bytes
 behind_framed delimiter (column ∷ columns) bytes = behind_framed delimiter columns (field_behind (stop_before delimiter columns) bytes)
 
--- what stands behind the last literal, with the key by which a statement names a row
+-- what stands after the last literal, with the key by which a statement names a row
 abbrev pub end_with : FrameOf → List ℕ → List ℕ
 end_with frame key = frame.end ++ key ++ codes ";\n"
 

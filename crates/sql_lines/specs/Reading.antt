@@ -3,7 +3,7 @@ use Rattle.std.specs.Prelude.{◌≢◌, ◌<◌, ℕ, ◌==◌, ◌&&◌, Bool,
 
 -- ---- where a field ends
 
--- the bytes of a field that ends before a byte, which a backslash before it makes part of the field; and the bytes behind that one. Each by
+-- the bytes of a field that ends before a byte, which a backslash before it makes part of the field; and the bytes after that one. Each by
 -- whether a backslash is read already
 abbrev pub field_from : Bool → ℕ → List ℕ → List ℕ
 field_from escape stop [] = []

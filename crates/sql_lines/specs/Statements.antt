@@ -1,4 +1,4 @@
--- The statements of rows, and the texts of tables as statements, each with a line feed behind it.
+-- The statements of rows, and the texts of tables as statements, each with a line feed after it.
 use Rattle.std.specs.Prelude.{ℕ, ◌++◌, List, [], codes, decimal, drop, flat_map, if◌then◌else◌, length, nat_le, slice_index_or}
 use Rattle.std.specs.List.{join_by, range_with_len}
 use Rattle.schema_facts.specs.Dictionaries.{Project}

@@ -5,7 +5,7 @@ use Rattle.sql_lines.specs.declared.frame.Verb.TheVariants.{Insert, Update}
 use Rattle.sql_lines.specs.Frames.{FrameOf, behind_framed, insertion_from, update_from}
 use Rattle.sql_lines.specs.Reading.{field_behind}
 
--- the statement that a frame makes of the line that bytes begin with, and the bytes behind the line
+-- the statement that a frame makes of the line that bytes begin with, and the bytes after the line
 abbrev pub statement_from : Verb → ℕ → FrameOf → List ℕ → List ℕ
 statement_from Insert delimiter frame bytes = insertion_from delimiter frame bytes
 statement_from Update delimiter frame bytes = update_from delimiter frame bytes

@@ -46,7 +46,7 @@ text-more lines i text old now below so_far text_is is =
     ∙ sym (lines_text-push (take i lines) line)
     ∙ ap lines_text (sym (take_more lines i no_line below))
 
--- lines whose keys are new go behind the others
+-- lines whose keys are new go after the others
 new-keys : (table lines : List KeyedLine) → All (λ (line : KeyedLine). has_key table line.key ≡ false) lines → ((i : ℕ) (d : KeyedLine) → i < length lines → has_key (take i lines) (get_or lines i d).key ≡ false) → (n : ℕ) → n ≤ length lines → fold put table (take n lines) ≡ table ++ take n lines
 new-keys table lines free apart zero within = sym (append-nil table)
 new-keys table lines free apart (suc n) within =

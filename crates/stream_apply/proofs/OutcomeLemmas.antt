@@ -97,7 +97,7 @@ key-one kind table before key number (KeyExists line) (DoubleKey line') is other
 key-one kind table before key number (KeyExists line) (NoSuchKey line') is other_is known other_known = absurd (both_ways _ other_is.3 is.3)
 key-one kind table before key number (KeyExists line) (KeyExists line') is other_is known other_known = ap KeyExists (is.0 ∙ sym other_is.0)
 
--- where a fault stands: behind lines without one, before a line that has one
+-- where a fault stands: after lines without one, before a line that has one
 record Stop (keys : KeyFields) (delimiter : ℕ) (kind : InputKind) (table : List KeyedLine) (bytes : List ℕ) : Type 0 where
   before : List KeyedLine
   rest : List ℕ

@@ -10,7 +10,7 @@ use Rattle.stream_apply.specs.Streams.{IsKeyedLine, IsReadTo, IsStream, wants_he
 use Rattle.stream_apply.specs.declared.key_fields.KeyFields.{KeyFields}
 use Rattle.stream_apply.specs.declared.kind.InputKind.{InputKind}
 
--- a line with a new key goes behind the others
+-- a line with a new key goes after the others
 pub put-absent : (lines : List KeyedLine) (line : KeyedLine) → has_key lines line.key ≡ false → put lines line ≡ lines ++ line ∷ []
 put-absent [] line absent = refl
 put-absent (first ∷ lines) line absent = by (bytes_eq line.key first.key) refl (put-absent lines line)
@@ -72,7 +72,7 @@ read-more keys delimiter kind table lines now line bytes rest behind read keyed_
       };
     })
 
--- behind the last line
+-- after the last line
 pub read-all : (keys : KeyFields) (delimiter : ℕ) (kind : InputKind) (table lines : List KeyedLine) (bytes rest : List ℕ) → IsReadTo keys delimiter kind table bytes lines rest → length rest ≡ 0 → IsStream keys delimiter kind table bytes lines
 read-all keys delimiter kind table lines bytes rest read none =
     let all : lines_text lines ≡ bytes = sym (read.text ∙ ap (λ (t : List ℕ). lines_text lines ++ t) (nil_from_length rest none) ∙ append-nil (lines_text lines)) in

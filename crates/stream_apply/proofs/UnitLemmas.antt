@@ -72,7 +72,7 @@ module _ (keys : KeyFields) (delimiter : ℕ) (key : ℕ → List ℕ) (size : �
     read = stream-lines_in Snapshot [] text p a n within (λ j low high passes. keyed-whole keys delimiter Snapshot (key j) (text j) refl (rows j low high)) (λ j low high passes. refl);
   }
 
-  -- a table's text and the streams of units behind it
+  -- a table's text and the streams of units after it
   made-table : (text : ℕ → List ℕ) (p : ℕ → Bool) (a n : ℕ) (streams : List (List ℕ)) (last : List KeyedLine) → a + n ≤ size →
       ((j : ℕ) → a ≤ j → j < a + n → IsKeyedText keys delimiter (key j) (text j)) →
       IsMadeByUnits keys delimiter streams (lines_in key text p a n) last →
@@ -96,8 +96,8 @@ module _ (keys : KeyFields) (delimiter : ℕ) (key : ℕ → List ℕ) (size : �
     is = after_is;
   }
 
-  -- the streams of a unit, where numbers below a first one drop out, others have new texts, and further ones come behind, and the
-  -- streams of units behind it
+  -- the streams of a unit, where numbers below a first one drop out, others have new texts, and further ones come last, and the
+  -- streams of units after it
   pub made-unit : (old new : ℕ → List ℕ) (before dies changes live : ℕ → Bool) (first count : ℕ) (streams : List (List ℕ)) (last : List KeyedLine) →
       first + count ≤ size →
       ((j : ℕ) → j < first + count → IsKeyedText keys delimiter (key j) (new j)) →

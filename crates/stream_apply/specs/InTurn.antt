@@ -12,7 +12,7 @@ pub record Input : Type 0 where
   pub kind : InputKind
   pub bytes : List ℕ
 
--- what is held behind: behind a table's text and behind what a unit inserts, what the next unit deletes, then what it updates and inserts
+-- what is held after: after a table's text and after what a unit inserts, what the next unit deletes, then what it updates and inserts
 abbrev pub next_kind : InputKind → InputKind
 next_kind Snapshot = Deletes
 next_kind Deletes = Updates

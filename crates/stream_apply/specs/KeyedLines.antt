@@ -20,7 +20,7 @@ lines_text lines = flat_map (λ line. line.text ++ 10 ∷ []) lines
 abbrev pub has_key : List KeyedLine → List ℕ → Bool
 has_key lines key = list_any (λ line. bytes_eq key line.key) lines
 
--- the lines with a line in the place of the one with its key, or behind them where none has it
+-- the lines with a line in the place of the one with its key, or after them where none has it
 abbrev pub put : List KeyedLine → KeyedLine → List KeyedLine
 put [] line = line ∷ []
 put (first ∷ lines) line = if bytes_eq line.key first.key then keyed first.key line.text ∷ lines else first ∷ put lines line

@@ -58,12 +58,12 @@ pub record IsStream (keys : KeyFields) (delimiter : ℕ) (kind : InputKind) (tab
   pub apart : (i : ℕ) (d : KeyedLine) → i < length lines → has_key (take i lines) (get_or lines i d).key ≡ false
   pub held : All (λ (line : KeyedLine). has_key table line.key ≡ wants_held kind) lines
 
--- a stream of which the first lines have no fault, and what is behind them
+-- a stream of which the first lines have no fault, and what is after them
 pub record IsReadTo (keys : KeyFields) (delimiter : ℕ) (kind : InputKind) (table : List KeyedLine) (bytes : List ℕ) (lines : List KeyedLine) (rest : List ℕ) : Type 0 where
   pub text : bytes ≡ lines_text lines ++ rest
   pub lines_read : IsStream keys delimiter kind table (lines_text lines) lines
 
--- the fault of a key, at the line of a number, behind lines without a fault
+-- the fault of a key, at the line of a number, after lines without a fault
 abbrev pub IsKeyFault : InputKind → List KeyedLine → List KeyedLine → List ℕ → ℕ → ApplyFault → Type 0
 IsKeyFault kind table before key number (BadLine line) = ⊥
 IsKeyFault kind table before key number (DoubleKey line) = (line ≡ number) × (has_key before key ≡ true)
@@ -71,7 +71,7 @@ IsKeyFault kind table before key number (NoSuchKey line) = (line ≡ number) × 
 IsKeyFault kind table before key number (KeyExists line) = (line ≡ number) × (has_key before key ≡ false) × (wants_held kind ≡ false) × (has_key table key ≡ true)
 IsKeyFault kind table before key number Memory = ⊥
 
--- the line behind those without a fault is no line of the stream
+-- the line after those without a fault is no line of the stream
 pub record HasBadLine (keys : KeyFields) (delimiter : ℕ) (kind : InputKind) (table : List KeyedLine) (bytes : List ℕ) (line : ℕ) : Type 0 where
   pub before : List KeyedLine
   pub rest : List ℕ
@@ -80,7 +80,7 @@ pub record HasBadLine (keys : KeyFields) (delimiter : ℕ) (kind : InputKind) (t
   pub more : 0 < length rest
   pub none : StartsNone keys delimiter kind rest
 
--- the line behind those without a fault has a key at fault
+-- the line after those without a fault has a key at fault
 pub record HasKeyFault (keys : KeyFields) (delimiter : ℕ) (kind : InputKind) (table : List KeyedLine) (bytes : List ℕ) (fault : ApplyFault) : Type 0 where
   pub before : List KeyedLine
   pub line : KeyedLine
@@ -132,11 +132,11 @@ pub record IsApplied (kind : InputKind) (bytes : List ℕ) (old new : Table) : T
   pub read : IsStream old.keys old.delimiter kind old.lines bytes lines
   pub made : new.lines ≡ made_by kind old.lines lines
 
--- what the streams of one unit make of a table: the lines of the deletes dropped, those of the updates in place, those of the inserts behind
+-- what the streams of one unit make of a table: the lines of the deletes dropped, those of the updates in place, those of the inserts last
 abbrev pub applied : List KeyedLine → List KeyedLine → List KeyedLine → List KeyedLine → List KeyedLine
 applied table deletes updates inserts = with_each (without table deletes) updates ++ inserts
 
--- the lines behind a table's text and the streams of one unit, none of which has a fault
+-- the lines after a table's text and the streams of one unit, none of which has a fault
 pub record IsBehind (keys : KeyFields) (delimiter : ℕ) (text deletes updates inserts : List ℕ) (lines : List KeyedLine) : Type 0 where
   pub table : List KeyedLine
   pub dropped : List KeyedLine

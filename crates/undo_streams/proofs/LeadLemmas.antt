@@ -16,7 +16,7 @@ use Rattle.undo_streams.specs.declared.part.Part.TheVariants.{Adds, Drops, Sets}
 use Rattle.undo_streams.specs.declared.undo_lines.Lead.{Lead}
 use Rattle.undo_streams.proofs.DigitLemmas.{decimal-lacks}
 
--- bytes with no such byte don't hold a text and that byte behind it
+-- bytes with no such byte don't hold a text and that byte after it
 lacks-no_cut : (byte : ℕ) (bytes text rest : List ℕ) → ¬ Contains bytes byte → bytes ≡ text ++ byte ∷ rest → ⊥
 lacks-no_cut byte bytes text rest none is =
     none (subst (λ (xs : List ℕ). Contains xs byte) (sym is) (Contains-append_right text (byte ∷ rest) byte (Contains-get_or (byte ∷ rest) 0 byte (omega arith))))
@@ -58,7 +58,7 @@ word-one Adds Sets same = absurd (omega (arith, ap (λ (w : List ℕ). get_or w 
 word-one Adds Adds same = refl
 
 module _ (delimiter : ℕ) (delimits : IsDelimiter delimiter) where
-  -- what is behind a word
+  -- what is after a word
   pub behind-word : (part other : Part) (rest behind : List ℕ) → word_of part ++ delimiter ∷ rest ≡ word_of other ++ delimiter ∷ behind → (part ≡ other) × (rest ≡ behind)
   behind-word part other rest behind same =
       let words : word_of part ≡ word_of other =
@@ -68,7 +68,7 @@ module _ (delimiter : ℕ) (delimits : IsDelimiter delimiter) where
       let rests : rest ≡ behind = cc in
       (word-one part other words, rests)
 
-  -- and behind a place
+  -- and after a place
   pub behind-digits : (place other : ℕ) (rest behind : List ℕ) → place < 10 ^ 13 → other < 10 ^ 13 → (decimal place ++ delimiter ∷ []) ++ rest ≡ (decimal other ++ delimiter ∷ []) ++ behind →
       (place ≡ other) × (rest ≡ behind)
   behind-digits place other rest behind small other_small same =
@@ -136,7 +136,7 @@ module _ (delimiter : ℕ) (delimits : IsDelimiter delimiter) where
   leads-other_word text word behind cut lacks none undo place is =
       none undo.part (first-cut delimiter word (word_of undo.part) behind (place_text delimiter undo.part undo.place ++ undo.line.text) lacks (word-lacks undo.part delimiter (outside delimiter delimits)) (sym cut ∙ is))
 
-  -- no place and body are behind the word of a line that is added
+  -- no place and body are after the word of a line that is added
   abbrev pub PlacesNone : List ℕ → Type 0
   PlacesNone behind = (place : ℕ) (body : List ℕ) → place < 10 ^ 13 → ¬ (behind ≡ (decimal place ++ delimiter ∷ []) ++ body)
 

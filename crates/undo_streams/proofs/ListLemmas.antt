@@ -13,13 +13,13 @@ part xs first end = take (end - first) (drop first xs)
 
 -- ---- pages
 
--- two texts behind a page's, one after the other
+-- two texts after a page's, one after the other
 pub page-two : (page middle last : Page) (a b : List ℕ) → middle ≡ record page { text = page.text ++ a } → last ≡ record middle { text = middle.text ++ b } →
     last ≡ record page { text = page.text ++ (a ++ b) }
 page-two page middle last a b first second =
     second ∙ ap (λ (p : Page). record { text = p.text ++ b; room = p.room }) first ∙ ap (λ (t : List ℕ). record { text = t; room = page.room }) (append_assoc page.text a b)
 
--- how long a page's text is, with a text behind it
+-- how long a page's text is, with a text after it
 pub page-length : (page last : Page) (a : List ℕ) → last ≡ record page { text = page.text ++ a } → length last.text ≡ length page.text + length a
 page-length page last a is = ap (λ (p : Page). length p.text) is ∙ length-append page.text a
 
@@ -73,7 +73,7 @@ part-one (x ∷ xs) (suc i) d below =
 pub part-map : {A B : Type 0} (f : A → B) (xs : List A) (first end : ℕ) → part (map f xs) first end ≡ map f (part xs first end)
 part-map f xs first end = ap (take (end - first)) (drop-map f first xs) ∙ take-map f (end - first) (drop first xs)
 
--- of two lists, one behind the other
+-- of two lists, one after the other
 pub part-append : {A : Type 0} (xs ys : List A) (first end : ℕ) → first ≤ end →
     part (xs ++ ys) first end ≡ part xs first end ++ part ys (first - length xs) (end - length xs)
 part-append [] ys first end ordered =
@@ -140,7 +140,7 @@ part-min (x ∷ xs) (suc first) (suc end) (suc n) ordered all =
 
 -- ---- packages
 
--- a package of a number begins with a line, and ends less than a package behind the last
+-- a package of a number begins with a line, and ends less than a package after the last
 pub package-last : (lines size n : ℕ) → n < (lines + (size - 1)) / size → n * size + size ≤ lines + (size - 1)
 package-last lines size n below =
     let next : n + 1 ≤ (lines + (size - 1)) / size = omega (arith, below) in

@@ -69,7 +69,7 @@ module _ (delimiter : ℕ) (delimits : IsDelimiter delimiter) where
             })
       ]
 
-  -- where a fault stands: behind lines without one, before what is no line without one
+  -- where a fault stands: after lines without one, before what is no line without one
   record Stop (table : List KeyedLine) (bytes : List ℕ) : Type 0 where
     before : List UndoLine
     rest : List ℕ

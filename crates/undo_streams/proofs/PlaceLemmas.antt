@@ -49,7 +49,7 @@ count_by-map p [] = refl
 count_by-map p (x ∷ xs) =
     count_by-cons (λ flag. flag) (p x) (map p xs) ∙ ap (λ n. cond (p x) 1 0 + n) (count_by-map p xs) ∙ sym (count_by-cons p x xs)
 
--- the living among some rows and those behind them
+-- the living among some rows and those after them
 pub living_among-add : (plan : Project) (table unit first m n : ℕ) →
     living_among plan table unit first (m + n) ≡ living_among plan table unit first m + living_among plan table unit (first + m) n
 living_among-add plan table unit first m n =

@@ -6,7 +6,7 @@ use Rattle.undo_streams.specs.InTurn.{HasUndoFaultAt, IsUndoneInTurn}
 use Rattle.undo_streams.specs.Reverting.{IsUndoFault, IsUndoneBy}
 use Rattle.undo_streams.specs.declared.fault.RevertFault.{RevertFault}
 
--- the text at a place, and those behind it
+-- the text at a place, and those after it
 pub bytes-at : {V : Type 0} (text : V → List ℕ) (inputs : List V) (place : ℕ) (input : V) (bytes : List ℕ) → place < length inputs → input ≡ get_or inputs place input → bytes ≡ text input →
     map text (drop place inputs) ≡ bytes ∷ map text (drop (place + 1) inputs)
 bytes-at {V} text inputs place input bytes below at is =

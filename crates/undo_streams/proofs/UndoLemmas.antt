@@ -8,7 +8,7 @@ use Rattle.undo_streams.specs.Reverting.{AreTaken, HasLineFault, IsLineFault, Is
 use Rattle.undo_streams.specs.declared.fault.RevertFault.{RevertFault}
 use Rattle.undo_streams.specs.declared.fault.RevertFault.TheVariants.{BadLine, BadPlace, DoubleKey, KeyExists, Memory, NoSuchKey}
 
--- one line more behind several
+-- one line more after several
 pub behind_all-push : (undoing : Undoing) (undos : List UndoLine) (undo : UndoLine) → behind_all undoing (undos ++ undo ∷ []) ≡ behind (behind_all undoing undos) undo
 behind_all-push undoing [] undo = refl
 behind_all-push undoing (first ∷ undos) undo = behind_all-push (behind undoing first) undos undo

@@ -43,7 +43,7 @@ count_of packages = (length (lines_in packages) + (packages.size - 1)) / package
 abbrev pub text_numbered : Packages → ℕ → List ℕ
 text_numbered packages n = concat (take packages.size (drop (n * packages.size) (lines_in packages)))
 
--- the most bytes that a line takes: a word, a place, the delimiters behind these, and the greatest line of the table
+-- the most bytes that a line takes: a word, a place, the delimiters after these, and the greatest line of the table
 abbrev pub most_bytes : Project → ℕ → ℕ
 most_bytes plan table = WORD_AND_PLACE + max_line (layout_of plan) table
 

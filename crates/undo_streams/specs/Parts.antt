@@ -32,6 +32,6 @@ adding lines ordinal place = worded lines.plan (codes "add") (worded lines.plan 
 abbrev pub adding_each : RunLinesOf → List ℕ → List ℕ → List ℕ
 adding_each lines ordinals places = flat_map (λ (at : ℕ × ℕ). adding lines at.0 at.1) (zip ordinals places)
 
--- of so many lines, behind others, the number of those that stand before a position of all
+-- of so many lines, after others, the number of those that stand before a position of all
 abbrev pub taken_by : ℕ → ℕ → ℕ → ℕ
 taken_by position others count = min (position - others) count

@@ -46,7 +46,7 @@ IsPlaceOf Drops place = place ≡ 0
 IsPlaceOf Sets place = place ≡ 0
 IsPlaceOf Adds place = place < 10 ^ 13
 
--- the place and the delimiter behind it, as they are written
+-- the place and the delimiter after it, as they are written
 abbrev pub place_text : ℕ → Part → ℕ → List ℕ
 place_text delimiter Drops place = []
 place_text delimiter Sets place = []
@@ -74,7 +74,7 @@ undone_by Drops place line lines = without lines (line ∷ [])
 undone_by Sets place line lines = put lines line
 undone_by Adds place line lines = take place lines ++ line ∷ drop place lines
 
--- the least place at which a line behind it may be added
+-- the least place at which a line after it may be added
 abbrev pub least_behind : Part → ℕ → ℕ
 least_behind Drops place = 0
 least_behind Sets place = 0
@@ -92,7 +92,7 @@ pub record Undoing : Type 0 where
 abbrev pub begun : List KeyedLine → Undoing
 begun lines = record { lines = lines; told = []; part = Drops; least = 0 }
 
--- behind one line more, and behind several in order
+-- after one line more, and after several in order
 abbrev pub behind : Undoing → UndoLine → Undoing
 behind undoing undo = record {
   lines = undone_by undo.part undo.place undo.line undoing.lines;
@@ -126,12 +126,12 @@ abbrev pub AreTaken : ℕ → Undoing → List UndoLine → Type 0
 AreTaken delimiter undoing [] = ⊤
 AreTaken delimiter undoing (undo ∷ undos) = IsTaken delimiter undoing undo × AreTaken delimiter (behind undoing undo) undos
 
--- bytes that start with no line that may stand behind one of a part
+-- bytes that start with no line that may stand after one of a part
 abbrev pub StartsNone : ℕ → Part → List ℕ → Type 0
 StartsNone delimiter part bytes =
     (undo : UndoLine) (rest : List ℕ) → bytes ≡ undo_line_text delimiter undo ++ 10 ∷ rest → IsUndoLine delimiter undo → ¬ (rank_of part ≤ rank_of undo.part)
 
--- bytes of which the first lines have no fault, and what is behind them
+-- bytes of which the first lines have no fault, and what is after them
 pub record IsReadTo (delimiter : ℕ) (table : List KeyedLine) (bytes : List ℕ) (undos : List UndoLine) (rest : List ℕ) : Type 0 where
   pub text : bytes ≡ undos_text delimiter undos ++ rest
   pub taken : AreTaken delimiter (begun table) undos
@@ -151,7 +151,7 @@ IsLineFault undoing undo number (BadPlace line) =
     × (has_key undoing.lines undo.line.key ≡ wants_held (kind_of undo.part)) × ¬ IsPlaceIn undoing undo.part undo.place
 IsLineFault undoing undo number Memory = Unit {0}
 
--- what is behind the lines without a fault starts with no line that may stand there
+-- what is after the lines without a fault starts with no line that may stand there
 pub record HasBadUndo (delimiter : ℕ) (table : List KeyedLine) (bytes : List ℕ) (line : ℕ) : Type 0 where
   pub before : List UndoLine
   pub rest : List ℕ
@@ -160,7 +160,7 @@ pub record HasBadUndo (delimiter : ℕ) (table : List KeyedLine) (bytes : List �
   pub more : 0 < length rest
   pub none : StartsNone delimiter (behind_all (begun table) before).part rest
 
--- the line behind those without a fault may stand there, and has a fault
+-- the line after those without a fault may stand there, and has a fault
 pub record HasLineFault (delimiter : ℕ) (table : List KeyedLine) (bytes : List ℕ) (fault : RevertFault) : Type 0 where
   pub before : List UndoLine
   pub undo : UndoLine

@@ -18,7 +18,7 @@ updated_before generator table zero = []
 updated_before generator table (suc unit) =
     filter (λ (row : Row). holds_row (updated generator table (suc unit)) row.ordinal) (rows_at generator table unit)
 
--- a word as the first field, and behind the delimiter what stands in others
+-- a word as the first field, and after the delimiter what stands in others
 abbrev pub behind_word : ℕ → List ℕ → List ℕ → List ℕ
 behind_word delimiter word others = word ++ delimiter ∷ others
 

@@ -7,7 +7,7 @@ use Rattle.undo_streams.specs.declared.part.Part.{Part}
 use Rattle.undo_streams.specs.declared.part.Part.TheVariants.{Adds, Drops, Sets}
 use Rattle.undo_streams.specs.declared.weaver.Weaver.{Weaver}
 
--- the lines: those that are told are still to be dropped; or all; or those that are woven, and behind them those of the table that aren't yet
+-- the lines: those that are told are still to be dropped; or all; or those that are woven, and after them those of the table that aren't yet
 abbrev pub lines_now : Part → List KeyedLine → List KeyedLine → List KeyedLine → ℕ → List KeyedLine
 lines_now Drops table told woven next = without table told
 lines_now Sets table told woven next = table

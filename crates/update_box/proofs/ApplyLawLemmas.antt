@@ -80,7 +80,7 @@ module _ (plan : Project) (limits : IsInLimits plan) (place : ℕ) (below : plac
       ap (join_with_byte generator.delimiter) (sym (field_texts-next plan limits place below unit within_next ordinal born before alive_next still_next)))
       within alive still
 
-  -- its streams, applied to the rows of the unit before, make those of the unit, and what comes behind them
+  -- its streams, applied to the rows of the unit before, make those of the unit, and what comes after them
   rows-next : (unit : ℕ) → unit + 1 ≤ last_unit plan → (streams : List (List ℕ)) (last : List KeyedLine) →
       IsMadeByUnits One generator.delimiter streams (rows (unit + 1)) last →
       IsMadeByUnits One generator.delimiter (unit_streams plan place (unit + 1) ++ streams) (rows unit) last

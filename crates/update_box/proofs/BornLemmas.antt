@@ -52,7 +52,7 @@ times-one_if n false = omega arith
 
 -- ---- a search, cohort by cohort
 
--- of the rows that are born before a unit those that pass a test stand behind a list, and no more steps have been taken than they are
+-- of the rows that are born before a unit those that pass a test stand after a list, and no more steps have been taken than they are
 pub record IsFoundBefore (test : ℕ → Bool) (births : Births) (unit : ℕ) (before after : List ℕ) (from to : ℕ) : Type 0 where
   pub rows : AreAppended (filter test (range_with_len 0 (first_ordinal births unit))) before after
   pub steps : to ≤ from + length (filter test (range_with_len 0 (first_ordinal births unit)))

@@ -108,7 +108,7 @@ pairs_before-next plan table t reference unit = sum_by-range_more (λ born. pair
 pairs_before-le : (plan : Project) (table t : ℕ) (reference : Reference) (unit : ℕ) → unit ≤ t → pairs_before plan table t reference unit ≤ pairs plan table t reference
 pairs_before-le plan table t reference unit within = sum_by-range_le (λ born. pairs_at plan table reference born (dying (generator_of plan) reference.parent t)) unit t within
 
--- of the rows that are born before a unit those that lose a parent by a reference stand behind a list, and no more steps have been taken
+-- of the rows that are born before a unit those that lose a parent by a reference stand after a list, and no more steps have been taken
 -- than they and the pairs are
 abbrev pub AreChildrenBefore : Project → ℕ → ℕ → Reference → ℕ → List ℕ → List ℕ → ℕ → ℕ → Type 0
 AreChildrenBefore plan table t reference unit before after from to =

@@ -35,7 +35,7 @@ package_count-least d s some = elim (cases_lt d (package_count s d)) [
 
 -- ---- texts of ranges, which join where they meet
 
--- where the texts of two ranges, one behind the other, are the text of both
+-- where the texts of two ranges, one after the other, are the text of both
 pub record AreJoined (f : ℕ → ℕ → List ℕ) (top : ℕ) : Type 0 where
   pub join : (a b c : ℕ) → a ≤ b → b ≤ c → c ≤ top → f a b ++ f b c ≡ f a c
 
@@ -131,7 +131,7 @@ shares-joined f count joined nodes some =
 
 -- ---- the packages of several items, one after the other
 
--- those of the first item, and those behind it
+-- those of the first item, and those after it
 text_in-first : {A : Type 0} (count : A → ℕ) (text : A → ℕ → List ℕ) (item : A) (items : List A) (n : ℕ) → n < count item → text_in count text (item ∷ items) n ≡ text item n
 text_in-first count text item items n below = ap (λ (test : Bool). if test then text item n else text_in count text items (n - count item)) (lt-ltb n (count item) below)
 
@@ -141,7 +141,7 @@ text_in-rest count text item items n =
     ap (λ (test : Bool). if test then text item (count item + n) else text_in count text items (count item + n - count item)) (le-ltb (count item + n) (count item) (omega arith))
     ∙ ap (text_in count text items) less
 
--- number k of an item is that number behind those of the items before
+-- number k of an item is that number after those of the items before
 pub text_in-at : {A : Type 0} (count : A → ℕ) (text : A → ℕ → List ℕ) (items : List A) (i k : ℕ) (d : A) → i < length items → k < count (get_or items i d) →
     text_in count text items (sum_by count (take i items) + k) ≡ text (get_or items i d) k
 text_in-at count text [] i k d below inside = absurd (omega (arith, below))
@@ -255,7 +255,7 @@ AreMarksOf-items count name (item ∷ items) some = record {
   within = λ i d below. omega (arith, (within count name 0 (item ∷ items) i d below).1);
 }
 
--- one more mark behind those of the items before
+-- one more mark after those of the items before
 pub marks_from-push : {A : Type 0} (count : A → ℕ) (name : A → List ℕ) (from : ℕ) (items : List A) (item : A) →
     marks_from count name from (items ++ item ∷ []) ≡ marks_from count name from items ++ record { first = from + sum_by count items; name = name item } ∷ []
 marks_from-push count name from [] item = let start : from ≡ from + 0 = omega arith in ap (λ (n : ℕ). record { first = n; name = name item } ∷ []) start

@@ -38,7 +38,7 @@ on_before-by on_delete plan table column ready of done is =
     ∙ filter-append (is_on on_delete) (references_before (table_of plan table) column) (reference_by column ready ∷ [])
     ∙ ap (λ (passed : Bool). on_before on_delete plan table column ++ (if passed then reference_by column ready ∷ [] else [])) (is_on-ready on_delete column ready ∙ is)
 
--- the rows that lose a parent by the references before a column stand behind a list, and no more steps have been taken than they and the
+-- the rows that lose a parent by the references before a column stand after a list, and no more steps have been taken than they and the
 -- pairs are
 pub record AreLosingBefore (plan : Project) (table t : ℕ) (on_delete : OnDelete) (column : ℕ) (before after : List ℕ) (from to : ℕ) : Type 0 where
   pub rows : AreAppended (losing_by plan table t (on_before on_delete plan table column)) before after

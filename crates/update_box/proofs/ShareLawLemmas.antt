@@ -68,7 +68,7 @@ share-room plan size most share few =
     let more : size * most_bytes plan share.part.place share.part.content ≤ size * most = mul-le-mul_left size few in
     omega (arith, less, more)
 
--- a line holds its table's key, and a line feed behind it or a delimiter
+-- a line holds its table's key, and a line feed after it or a delimiter
 key_size : (delimiter : ℕ) (tables : List TableLayout) (columns : List ColumnLayout) (kind : KindLayout) → kind ≡ key_kind → size_of delimiter tables columns kind ≡ 20
 key_size delimiter tables columns kind is = ap (size_of delimiter tables columns) is
 

@@ -37,7 +37,7 @@ lines_at plan unit place = record { plan = plan; table = place; unit = unit }
 abbrev pub HasPackages : ℕ → KeptShare → Type 0
 HasPackages size kept = kept.packages ≡ packages_in size (kept_share kept)
 
--- and ends behind its begin
+-- and ends after its begin
 pub record IsCut (size : ℕ) (kept : KeptShare) : Type 0 where
   pub ordered : kept.first ≤ kept.end
   pub few : kept.end ≤ 2 ^ 40

@@ -38,7 +38,7 @@ Options:
                     writes it: a null is \\N, and a text that begins with a backslash has one more before it
 
 In a database the columns have the names of the schema's, and there may be others. Numbers are compared by their values: 6.0 is 6.00.
-A date may have a time of midnight behind it. All other fields are compared byte by byte.
+A date may have a time of midnight after it. All other fields are compared byte by byte.
 
 The rows of both sides are read in the order of keys, and one row of each is held at a time. A database sorts them (ORDER BY) if the
 key is of a type of numbers. Else they go through the program `sort`, and so does a snapshot whose keys are scrambled, and each file. That

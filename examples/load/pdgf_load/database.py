@@ -32,7 +32,7 @@ class Database:
     def play(self, unit, texts, lines, is_base):
         """Carries out a unit as one transaction, by the files of a folder: `lines(path)` counts those of one. The base is a snapshot.
 
-        A table stands behind those that it refers to. So rows are deleted from the last table on, and inserted from the first: a row
+        A table stands after those that it refers to. So rows are deleted from the last table on, and inserted from the first: a row
         that is deleted is one that no row refers to.
         """
         session = self.session()

@@ -70,7 +70,7 @@ class Table:
 class Schema:
     units: int
     delimiter: str
-    tables: tuple  # the detail tables behind the others
+    tables: tuple  # the detail tables after the others
     word_lists: tuple  # the names of their files
 
     def table(self, name):

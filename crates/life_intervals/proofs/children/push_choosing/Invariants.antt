@@ -5,7 +5,7 @@ use Rattle.life_intervals.specs.Blocks.{block_start}
 use Rattle.life_intervals.specs.References.{choice}
 use Rattle.life_intervals.proofs.children.push_choosing.Given as goal
 
--- the places before a block of the candidate stand behind the list
+-- the places before a block of the candidate stand after the list
 abbrev pub invariant-loop-block : goal.invariant-loop-block
 invariant-loop-block l = record {
   own : l.number % l.count ≡ l.candidate;

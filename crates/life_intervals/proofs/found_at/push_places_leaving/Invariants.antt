@@ -2,7 +2,7 @@ use Rattle.std.proofs.Common.{◌≡◌, ◌-◌, ◌%◌, ◌++◌, min}
 use Rattle.life_intervals.specs.FoundAt.{places_leaving}
 use Rattle.life_intervals.proofs.found_at.push_places_leaving.Given as goal
 
--- the places before one of the residue that leave it stand behind the list
+-- the places before one of the residue that leave it stand after the list
 abbrev pub invariant-loop-place : goal.invariant-loop-place
 invariant-loop-place l = record {
   own : l.place % l.residue.modulus ≡ l.residue.remainder;

@@ -33,7 +33,7 @@ each c =
 delimiter_is : (c : After-delimiter-delimiter) → c.delimiter-delimiter.result ≡ (layout_of c.args.of.now.plan).delimiter
 delimiter_is c = c.delimiter-delimiter.ensures ∙ ap (λ (plan : Project). (layout_of plan).delimiter) (sym c.requires.plan)
 
--- the statement that is made, and what is behind its line
+-- the statement that is made, and what is after its line
 statement_is : (c : After-delimiter-delimiter) (bytes : List ℕ) →
     statement_from c.args.verb c.delimiter-delimiter.result c.args.frame.now bytes ≡ statement_from c.args.verb (layout_of c.args.of.now.plan).delimiter (frame_for c.args.of.now c.args.verb) bytes
 statement_is c bytes =

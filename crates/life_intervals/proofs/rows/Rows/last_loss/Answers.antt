@@ -16,7 +16,7 @@ use Rattle.life_intervals.proofs.ReferenceLemmas.{references_before}
 use Rattle.life_intervals.proofs.rows.Rows.last_loss.Goals as goal
 use Rattle.life_intervals.proofs.rows.Rows.last_loss.Goals.{in-Reference+then-reference, in-Reference+else-reference, in_default}
 
--- behind the last column all references are before
+-- after the last column all references are before
 all_columns : (plan : Project) (table column : ℕ) (columns : List ReadyColumn) → columns ≡ ready_columns (layout_of plan) table → length columns ≤ column →
     references_before (table_of plan table) column ≡ references_of (table_of plan table)
 all_columns plan table column columns are all = references_before-all plan table column (omega (arith, all, ap length are, length-ready_columns plan table))

@@ -4,7 +4,7 @@ use Rattle.schema_facts.specs.Lineage.{one_if}
 use Rattle.life_intervals.specs.Blocks.{places_of_parent}
 use Rattle.life_intervals.proofs.rows.Rows.push_children.Given as goal
 
--- the places at which the rows before one are chosen stand behind the list, and each of these rows took a step where they are drawn
+-- the places at which the rows before one are chosen stand after the list, and each of these rows took a step where they are drawn
 abbrev pub invariant-loop-parent : goal.invariant-loop-parent
 invariant-loop-parent g l = record {
   places : l.children.items

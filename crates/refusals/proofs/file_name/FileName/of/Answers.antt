@@ -3,7 +3,7 @@ use Rattle.std.proofs.Math.Seq.{drop-append_seam}
 use Rattle.std.proofs.lemmas.List.{drop-replicate, length-append, length-replicate}
 use Rattle.refusals.proofs.file_name.FileName.of.Goals as goal
 
--- a name with zeros behind it fills the array
+-- a name with zeros after it fills the array
 padded : (name new rest : List ℕ) → new ≡ name → rest ≡ replicate 64 0 → length name ≤ 64 →
     (length name ≤ 64) × (length (new ++ drop (length name) rest) ≡ 64) × (drop (length name) (new ++ drop (length name) rest) ≡ replicate (64 - length name) 0)
 padded name new rest is zeros fits =

@@ -1,4 +1,4 @@
-use Rattle.std.proofs.Common.{◌≡◌, ℕ, Some, ap, ◌∙◌}
+use Rattle.std.proofs.Common.{Some, ap, ◌∙◌}
 use Rattle.std.specs.HashMap.{get}
 use Rattle.row_keeper.specs.Kept.{KeptRow, KeptRows, with_row}
 use Rattle.row_keeper.specs.MapKeeper.{keeping_of, same_key}

@@ -1,4 +1,4 @@
-use Rattle.std.proofs.Common.{◌≡◌, ℕ, None, ap, ◌∙◌}
+use Rattle.std.proofs.Common.{None, ap}
 use Rattle.std.specs.HashMap.{get}
 use Rattle.row_keeper.specs.Kept.{KeptRows}
 use Rattle.row_keeper.specs.MapKeeper.{keeping_of, same_key}

@@ -4,7 +4,7 @@ use Rattle.update_box.specs.declared.parts.Content.TheVariants.{Deleted, Inserte
 use Rattle.table_jobs.specs.modes.Sample.{lines_at, text_and_changes}
 use Rattle.table_jobs.proofs.modes.sample.table_texts.Given as goal
 
--- the text at unit 0, and what the units behind it change, as many as there were steps
+-- the text at unit 0, and what the units after it change, as many as there were steps
 abbrev pub invariant-loop-step : goal.invariant-loop-step
 invariant-loop-step g l = record {
   plan : l.held ≡ l.fn.plan;
